@@ -1,0 +1,12 @@
+pub mod Terms
+pub mod Words
+pub mod Substituting
+pub mod Listing
+pub mod Renamed
+pub mod Variants
+pub mod Counting
+pub mod Lacking
+pub mod Under
+pub mod Values
+pub mod Answering
+pub mod Ruling
