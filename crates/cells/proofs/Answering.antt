@@ -10,11 +10,11 @@ use Rattle.std.proofs.shelf.Lists.{take-all, length-take-le}
 use Rattle.std.proofs.shelf.Tests.{cases-order, true≢false}
 use Rattle.std.specs.declared.result.Result.{Result}
 use Rattle.std.specs.declared.result.Result.the-variants.{Ok, Err}
-use Rattle.cells.specs.declared.fault.CellFault.{CellFault}
-use Rattle.cells.specs.declared.fault.CellFault.the-variants.{Length, NoCell, EndsEarly, LeftOver}
-use Rattle.cells.specs.declared.fault.RuleFault.{RuleFault}
-use Rattle.cells.specs.declared.fault.RuleFault.the-variants.{Cells, BareVariable, NewVariable}
-use Rattle.cells.specs.declared.fault.Side.the-variants.{Left, Right}
+use Rattle.refusals.specs.declared.CellFault.{CellFault}
+use Rattle.refusals.specs.declared.CellFault.the-variants.{Length, NoCell, EndsEarly, LeftOver}
+use Rattle.refusals.specs.declared.RuleFault.{RuleFault}
+use Rattle.refusals.specs.declared.RuleFault.the-variants.{Cells, BareVariable, NewVariable}
+use Rattle.refusals.specs.declared.Side.the-variants.{Left, Right}
 use Rattle.cells.specs.Cells.{Cell, cell, row}
 use Rattle.cells.specs.Rows.{Whole, Stands, Occurs}
 use Rattle.cells.specs.Checks.{CheckedRow, FirstBad, RowFault, OneRowAnswer}

@@ -6,7 +6,6 @@ pub mod Renamed
 pub mod Variants
 pub mod Counting
 pub mod Lacking
-pub mod Under
 pub mod Values
 pub mod Answering
 pub mod Ruling

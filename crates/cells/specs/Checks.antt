@@ -5,8 +5,8 @@ use Prim.Native.Nat.{ℕ, _<_, _≤_}
 use lib.ListN.{length, getD, take}
 use Rattle.std.specs.declared.result.Result.{Result}
 use Rattle.std.specs.declared.result.Result.the-variants.{Ok, Err}
-use Rattle.cells.specs.declared.fault.CellFault.{CellFault}
-use Rattle.cells.specs.declared.fault.CellFault.the-variants.{Length, NoCell, EndsEarly, LeftOver}
+use Rattle.refusals.specs.declared.CellFault.{CellFault}
+use Rattle.refusals.specs.declared.CellFault.the-variants.{Length, NoCell, EndsEarly, LeftOver}
 use Rattle.cells.specs.Cells.{IsCell, AllCells, row}
 use Rattle.cells.specs.Rows.{Whole}
 

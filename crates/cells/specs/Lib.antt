@@ -5,6 +5,4 @@ pub mod Variables
 pub mod Interpretations
 pub mod Checks
 pub mod Rules
-pub mod Refusals
 pub mod Records
-pub mod Bindings

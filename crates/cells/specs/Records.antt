@@ -5,8 +5,8 @@ use Prim.Native.Nat.{ℕ}
 use lib.ListN.{take}
 use Rattle.std.specs.declared.result.Result.{Result}
 use Rattle.std.specs.declared.result.Result.the-variants.{Ok, Err}
-use Rattle.cells.specs.declared.fault.CellFault.{CellFault}
-use Rattle.cells.specs.declared.fault.RuleFault.{RuleFault}
+use Rattle.refusals.specs.declared.CellFault.{CellFault}
+use Rattle.refusals.specs.declared.RuleFault.{RuleFault}
 use Rattle.cells.specs.declared.row.Row.{Row}
 use Rattle.cells.specs.declared.names.Names.{Names}
 use Rattle.cells.specs.declared.rule.Rule.{Rule}

@@ -8,9 +8,9 @@ use lib.Dec.{ltb, leb, eqb}
 use lib.ListN.{length}
 use Rattle.std.specs.declared.result.Result.{Result}
 use Rattle.std.specs.declared.result.Result.the-variants.{Ok, Err}
-use Rattle.cells.specs.declared.fault.RuleFault.{RuleFault}
-use Rattle.cells.specs.declared.fault.RuleFault.the-variants.{Cells, BareVariable, NewVariable}
-use Rattle.cells.specs.declared.fault.Side.the-variants.{Left, Right}
+use Rattle.refusals.specs.declared.RuleFault.{RuleFault}
+use Rattle.refusals.specs.declared.RuleFault.the-variants.{Cells, BareVariable, NewVariable}
+use Rattle.refusals.specs.declared.Side.the-variants.{Left, Right}
 use Rattle.cells.specs.Cells.{Cell, symbol, variable, isCell, row, words}
 use Rattle.cells.specs.Rows.{terms, Stands, Occurs}
 use Rattle.cells.specs.Substitutions.{rename}

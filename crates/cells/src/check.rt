@@ -5,9 +5,9 @@ ghost use Rattle.std.specs.Options.{Cases as BySome};
 ghost use Rattle.cells.specs.Cells.{AllCells};
 ghost use Rattle.cells.specs.Rows.{Ends};
 ghost use Rattle.cells.specs.Checks.{FirstBad, RowAnswer};
-use crate::fault::CellFault;
 use crate::word::arity_of;
 use crate::word::is_cell;
+use refusals::CellFault;
 
 // The lowest position whose word is no cell.
 fn find_bad(cells: &[u32]) -> Option<usize>

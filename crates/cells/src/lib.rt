@@ -1,25 +1,13 @@
 // Cells, rows of cells, rules, and what is checked of them. The lowest layer: everything above stands on these definitions.
-mod bindings;
 mod check;
-mod fault;
 mod names;
 mod row;
 mod rule;
 mod theorems;
 mod word;
 
-pub use bindings::Bindings;
-pub use bindings::Part;
-pub use bindings::calls::length_under;
-pub use bindings::calls::substitute_into;
 pub use check::check_row;
 pub use check::term_end;
-pub use fault::CellFault;
-pub use fault::Layer;
-pub use fault::NumberFault;
-pub use fault::Refusal;
-pub use fault::RuleFault;
-pub use fault::Side;
 pub use row::Formula;
 pub use row::Row;
 pub use row::RuleSide;

@@ -7,13 +7,13 @@ pub const VARIABLE: u32 = 0x8000_0000;
 
 // The variables of a rule, of a formula and of the tree are three kinds: an equal v never lets one pass as another.
 // A row does not know whose it is, so who does wraps the number.
-#[derive(Clone, Copy, PartialEq, Eq)]
+#[derive(Clone, Copy)]
 pub struct RuleVar(pub u32);
 
-#[derive(Clone, Copy, PartialEq, Eq)]
+#[derive(Clone, Copy)]
 pub struct FormulaVar(pub u32);
 
-#[derive(Clone, Copy, PartialEq, Eq)]
+#[derive(Clone, Copy)]
 pub struct TreeVar(pub u32);
 
 // Whether a word is a cell.

@@ -7,7 +7,7 @@ ghost use Rattle.cells.specs.Rows.{Whole};
 ghost use Rattle.cells.specs.Records.{RowMade, row-words};
 use super::Row;
 use crate::check::check_row;
-use crate::fault::CellFault;
+use refusals::CellFault;
 
 // An array that begins with the words.
 fn hold<const N: usize>(cells: &[u32]) -> [u32; N]

@@ -5,13 +5,13 @@ ghost use Rattle.cells.specs.Cells.{row};
 ghost use Rattle.cells.specs.Rules.{Sides, sides, size, bare};
 ghost use Rattle.cells.specs.Records.{RowMade, RuleMade, row-words, rule-sides};
 use super::Rule;
-use crate::fault::RuleFault;
-use crate::fault::RuleFaultFromSide;
-use crate::fault::Side;
-use crate::fault::SideFault;
 use crate::row::Row;
 use crate::row::RuleSide;
 use crate::word::VARIABLE;
+use refusals::RuleFault;
+use refusals::RuleFaultFromSide;
+use refusals::Side;
+use refusals::SideFault;
 
 // A side's row, or its fault with the side.
 fn check_side(side: Side, cells: &[u32]) -> Result<RuleSide, SideFault>
