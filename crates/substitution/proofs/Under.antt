@@ -9,10 +9,10 @@ use Rattle.std.proofs.shelf.Tests.{cases-lt}
 use Rattle.std.proofs.shelf.Lists.{take-more, take-map, drop-map, take-all, drop-all, drop-drop}
 use Rattle.std.specs.declared.option.Option.the-variants.{Some, None}
 use Rattle.substitution.specs.declared.bindings.Part.{Part}
-use Rattle.substitution.specs.declared.bindings.Bindings.{Bindings}
+use Rattle.substitution.specs.declared.bindings.Binding.{Binding}
 use Rattle.cells.specs.Cells.{Cell, symbol, variable, cell, word, row, words}
 use Rattle.cells.specs.Substitutions.{substitute}
-use Rattle.substitution.specs.Bindings.{part-of, bound-in, under}
+use Rattle.substitution.specs.Bindings.{lookup, part-of, bound-in, under}
 use Rattle.cells.proofs.Words.{cell-symbol, cell-variable, word-cell, words-row}
 use Rattle.cells.proofs.Substituting.{substitute-append}
 
@@ -35,24 +35,28 @@ clipped s at len a b p q =
     ∙ sym (ap (take len) (drop-all at s past) ∙ take-all len [] (omega arith)))
     (cases-lt at (length s))
 
-module _ (source : List ℕ) (b : Bindings) where
-  pub from-part : (w : ℕ) (p : Part) → 2147483648 ≤ w → getD (b .parts) (w - 2147483648) None ≡ Some p → take (p .len) (drop (p .at) source) ≡ under source b (w ∷ [])
+module _ (source : List ℕ) (b : List Binding) where
+  -- what is put for the variable of a word
+  at-word : (w : ℕ) → 2147483648 ≤ w → under source b (w ∷ []) ≡ words (part-of (row source) (w - 2147483648) (lookup b w))
+  at-word w big =
+      let v = w - 2147483648 in
+      let z : 2147483648 + v ≡ w = omega arith in
+      ap (λ c. words (substitute (bound-in source b) (c ∷ []))) (cell-variable w big) ∙ ap words (append-nil (bound-in source b v)) ∙ ap (λ x. words (part-of (row source) v (lookup b x))) z
+
+  pub from-part : (w : ℕ) (p : Part) → 2147483648 ≤ w → lookup b w ≡ Some p → take (p .len) (drop (p .at) source) ≡ under source b (w ∷ [])
   from-part w p big e =
       let part = take (p .len) (drop (p .at) source) in
-      let σ = bound-in source b in
       let rows : take (p .len) (drop (p .at) (row source)) ≡ row part = ap (take (p .len)) (drop-map cell (p .at) source) ∙ take-map cell (p .len) (drop (p .at) source) in
-      sym (words-row part) ∙ ap words (sym rows ∙ ap (part-of (row source) (w - 2147483648)) (sym e) ∙ sym (append-nil (σ (w - 2147483648))) ∙ ap (λ c. substitute σ (c ∷ [])) (sym (cell-variable w big)))
+      sym (words-row part) ∙ ap words (sym rows) ∙ ap (λ o. words (part-of (row source) (w - 2147483648) o)) (sym e) ∙ sym (at-word w big)
 
   pub from-symbol : (w : ℕ) → w < 2147483648 → w ∷ [] ≡ under source b (w ∷ [])
   from-symbol w small =
       let e = cell-symbol w small in
       sym (words-row (w ∷ [])) ∙ ap (λ c. words (c ∷ [])) e ∙ ap (λ c. words (substitute (bound-in source b) (c ∷ []))) (sym e)
 
-  pub from-free : (w : ℕ) → 2147483648 ≤ w → getD (b .parts) (w - 2147483648) None ≡ None → w ∷ [] ≡ under source b (w ∷ [])
+  pub from-free : (w : ℕ) → 2147483648 ≤ w → lookup b w ≡ None → w ∷ [] ≡ under source b (w ∷ [])
   from-free w big none =
-      let e = cell-variable w big in
-      let v = w - 2147483648 in
-      sym (words-row (w ∷ [])) ∙ ap (λ c. words (c ∷ [])) e ∙ ap (λ o. words (part-of (row source) v o ++ [])) (sym none) ∙ ap (λ c. words (substitute (bound-in source b) (c ∷ []))) (sym e)
+      sym (words-row (w ∷ [])) ∙ ap (λ c. words (c ∷ [])) (cell-variable w big) ∙ ap (λ o. words (part-of (row source) (w - 2147483648) o)) (sym none) ∙ sym (at-word w big)
 
   pub under-append : (x y : List ℕ) → under source b (x ++ y) ≡ under source b x ++ under source b y
   under-append x y =

@@ -1,117 +1,75 @@
-// Binding variables, and writing a row under the bindings.
+// The list of bindings.
 ghost use mathlib.Core.Path.{_≡_};
+ghost use mathlib.Core.Bool.{cond};
 ghost use mathlib.Core.List.{[], _∷_, _++_};
-ghost use Prim.Native.Nat.{_+_, _<_, _≤_};
-ghost use lib.ListN.{length, getD, set, take, drop, replicate};
-ghost use Rattle.std.specs.declared.option.Option.the-variants.{Some, None};
-ghost use Rattle.substitution.specs.Bindings.{under, Measured, Written};
+ghost use lib.Dec.{ltb};
+ghost use lib.ListN.{length, take};
+ghost use Rattle.substitution.specs.Bindings.{bindings-list, binding, lookup};
+use super::Binding;
 use super::Bindings;
 use super::Part;
-use cells::RuleVar;
-use cells::VARIABLE;
+
+// The part of the first binding of the variable.
+fn find_in(list: &[Binding], cell: u32) -> Option<Part>
+    ensures { λ r. ⌜ r ≡ lookup (now (list .entry)) cell ⌝ }
+{
+    for b in list {
+        if b.variable == cell {
+            return Some(b.part);
+        }
+    }
+    None
+}
 
 impl Bindings {
     // No variable is bound.
     pub fn none() -> Bindings
-        ensures { λ r. ⌜ r .parts ≡ replicate 64 None ⌝ }
+        ensures { λ r. ⌜ bindings-list r ≡ [] ⌝ }
     {
-        Bindings { parts: [None; 64] }
+        let nothing = Binding {
+            variable: 0,
+            part: Part { at: 0, len: 0 },
+        };
+        Bindings {
+            items: [nothing; 256],
+            len: 0,
+        }
     }
 
-    // The part that is put for v.
-    pub fn part(&self, v: RuleVar) -> Option<Part>
-        ensures { λ r. ⌜ r ≡ getD (now (self .entry) .parts) (v .0) None ⌝ }
+    // How many bindings there are.
+    pub fn len(&self) -> usize
+        ensures { λ r. ⌜ r ≡ length (bindings-list (now (self .entry))) ⌝ }
     {
-        if v.0 >= 64 {
-            return None;
-        }
-        self.parts[v.0 as usize]
+        self.len
     }
 
-    // Binds v, if it is a variable that a rule can have.
-    pub fn bind(&mut self, v: RuleVar, part: Part)
-        ensures { λ _. ⌜ now (self .exit) .parts ≡ set (now (self .entry) .parts) (v .0) (Some part) ⌝ }
+    // The part that is put for the variable, by its cell.
+    pub fn find(&self, cell: u32) -> Option<Part>
+        ensures { λ r. ⌜ r ≡ lookup (bindings-list (now (self .entry))) cell ⌝ }
     {
-        if v.0 < 64 {
-            self.parts[v.0 as usize] = Some(part);
+        find_in(&self.items[0..self.len], cell)
+    }
+
+    // One binding more; false, and nothing, where the list is full.
+    pub fn push(&mut self, variable: u32, part: Part) -> bool
+        ensures done { λ r. ⌜ r ≡ ltb (length (bindings-list (now (self .entry)))) 256 ⌝ }
+        ensures list { λ r. ⌜ bindings-list (now (self .exit)) ≡ cond r (bindings-list (now (self .entry)) ++ binding variable part ∷ []) (bindings-list (now (self .entry))) ⌝ }
+    {
+        let n = self.len;
+        if n >= 256 {
+            return false;
+        }
+        self.items[n] = Binding { variable, part };
+        self.len = n + 1;
+        true
+    }
+
+    // Only the first n bindings stay.
+    pub fn truncate(&mut self, n: usize)
+        ensures { λ _. ⌜ bindings-list (now (self .exit)) ≡ take n (bindings-list (now (self .entry))) ⌝ }
+    {
+        if n < self.len {
+            self.len = n;
         }
     }
-}
-
-// The part, as far as the source goes.
-fn clipped(source: &[u32], part: Part) -> &[u32]
-    ensures { λ r. ⌜ now r ≡ take (part .len) (drop (part .at) (now (source .entry))) ⌝ }
-{
-    let start = part.at.min(source.len());
-    let len = part.len.min(source.len() - start);
-    &source[start..start + len]
-}
-
-// What is put for the cell at `i` of the pattern: a part of the source, or the cell itself.
-fn piece<'a>(pattern: &'a [u32], i: usize, bindings: &Bindings, source: &'a [u32]) -> &'a [u32]
-    requires { ⌜ i < length (now pattern) ⌝ }
-    ensures { λ r. ⌜ now r ≡ under (now (source .entry)) (now (bindings .entry)) (getD (now (pattern .entry)) i 0 ∷ []) ⌝ }
-{
-    if pattern[i] >= VARIABLE {
-        if let Some(part) = bindings.part(RuleVar(pattern[i] - VARIABLE)) {
-            return clipped(source, part);
-        }
-    }
-    &pattern[i..i + 1]
-}
-
-// How many words the pattern has under the bindings, if no more than `room`.
-pub fn length_under(
-    pattern: &[u32],
-    bindings: &Bindings,
-    source: &[u32],
-    room: usize,
-) -> Option<usize>
-    ensures { λ r. ⌜ Measured (under (now (source .entry)) (now (bindings .entry)) (now (pattern .entry))) room r ⌝ }
-{
-    let mut n = 0;
-    for i in 0..pattern.len() {
-        let more = piece(pattern, i, bindings, source).len();
-        if more > room - n {
-            return None;
-        }
-        n += more;
-    }
-    Some(n)
-}
-
-// Copies the words behind the first `n` of `out`, and says where they end.
-fn push_words(out: &mut [u32], n: usize, more: &[u32]) -> usize
-    requires { ⌜ n + length (now more) ≤ length (now out) ⌝ }
-    ensures end { λ r. ⌜ r ≡ n + length (now (more .entry)) ⌝ }
-    ensures front { λ r. ⌜ take r (now (out .exit)) ≡ take n (now (out .entry)) ++ now (more .entry) ⌝ }
-    ensures rest { λ r. ⌜ drop r (now (out .exit)) ≡ drop r (now (out .entry)) ⌝ }
-{
-    out[n..n + more.len()].copy_from_slice(more);
-    n + more.len()
-}
-
-// Writes the pattern under the bindings, which has room, to the front of `out`.
-fn write_under(pattern: &[u32], bindings: &Bindings, source: &[u32], out: &mut [u32])
-    requires { ⌜ length (under (now source) (now bindings) (now pattern)) ≤ length (now out) ⌝ }
-    ensures { λ _. ⌜ Written (under (now (source .entry)) (now (bindings .entry)) (now (pattern .entry))) (now (out .entry)) (Some (length (under (now (source .entry)) (now (bindings .entry)) (now (pattern .entry))))) (now (out .exit)) ⌝ }
-{
-    let mut n = 0;
-    for i in 0..pattern.len() {
-        n = push_words(out, n, piece(pattern, i, bindings, source));
-    }
-}
-
-// Writes the pattern, with the bound parts of the source put for its variables, to the front of `out`, and says how many words that is.
-pub fn substitute_into(
-    pattern: &[u32],
-    bindings: &Bindings,
-    source: &[u32],
-    out: &mut [u32],
-) -> Option<usize>
-    ensures { λ r. ⌜ Written (under (now (source .entry)) (now (bindings .entry)) (now (pattern .entry))) (now (out .entry)) r (now (out .exit)) ⌝ }
-{
-    let n = length_under(pattern, bindings, source, out.len())?;
-    write_under(pattern, bindings, source, out);
-    Some(n)
 }

@@ -1,6 +1,6 @@
 use borrow.Author.Needs.{needs}
 use Rattle.std.proofs.shelf.Parts.{overwrites}
-use Rattle.substitution.proofs.bindings.calls.push_words.Needs as need
+use Rattle.substitution.proofs.bindings.writing.push_words.Needs as need
 
 pub returns : need.returns
 returns c = record { end = search needs; front = search (needs, overwrites); rest = search (needs, overwrites) }
