@@ -3,40 +3,53 @@ use mathlib.Core.Path.{_≡_, refl, sym, ap, subst, _∙_}
 use mathlib.Core.Logic.{⊎-elim}
 use mathlib.Core.Bool.{cond}
 use mathlib.Core.List.{List, [], _∷_, _++_, map}
-use Prim.Native.Nat.{ℕ, _≤_}
+use Prim.Native.Nat.{ℕ, suc, _≤_}
 use native.Mathlib.Omega.{arith}
 use lib.Dec.{eqb}
 use lib.ListN.{length}
+use Rattle.std.specs.Vec.{Every}
 use Rattle.std.proofs.shelf.Lists.{length-map, map-push}
+use Rattle.std.proofs.shelf.Elements.{all-push}
 use Rattle.cells.specs.Cells.{Cell, symbol, variable}
+use Rattle.cells.specs.Rows.{Occurs}
 use Rattle.cells.specs.Substitutions.{rename}
 use Rattle.cells.specs.Variables.{index, Listed, include, collect, variables, normalized, Exchange, Variant, VariableLaws}
 use Rattle.cells.proofs.Listing.{index-append, index-push, listed-push, by-include, occurs-listed, listed-occurs}
 use Rattle.cells.proofs.Renamed.{rename-agree, rename-twice, rename-same}
 
--- Renaming one to one.
+-- Renaming one to one: π takes the variables of the row back.
 
-module _ (ρ π : ℕ → ℕ) (there : (v : ℕ) → π (ρ v) ≡ v) where
-  pub index-map : (us : List ℕ) (v : ℕ) → index (map ρ us) (ρ v) ≡ index us v
-  index-map [] v = refl
-  index-map (u ∷ us) v = let a = there u in let b = there v in let r = index-map us v in grind arith
+abbrev Back : (ℕ → ℕ) → (ℕ → ℕ) → ℕ → Type 0
+Back ρ π v = π (ρ v) ≡ v
 
-  include-map : (us : List ℕ) (v : ℕ) → include (map ρ us) (ρ v) ≡ map ρ (include us v)
-  include-map us v = let i = index-map us v in let l = length-map us ρ in let m = map-push ρ us v in grind arith
+module _ (ρ π : ℕ → ℕ) where
+  pub index-map : (us : List ℕ) (v : ℕ) → Every (Back ρ π) us → Back ρ π v → index (map ρ us) (ρ v) ≡ index us v
+  index-map [] v all b = refl
+  index-map (u ∷ us) v all b = let a = all .0 in let r = index-map us v (all .1) b in grind arith
 
-  collect-map : (us : List ℕ) (cs : List Cell) → collect (map ρ us) (rename ρ cs) ≡ map ρ (collect us cs)
-  collect-map us [] = refl
-  collect-map us (symbol k f ∷ cs) = collect-map us cs
-  collect-map us (variable v ∷ cs) = ap (λ z. collect z (rename ρ cs)) (include-map us v) ∙ collect-map (include us v) cs
+  include-map : (us : List ℕ) (v : ℕ) → Every (Back ρ π) us → Back ρ π v → include (map ρ us) (ρ v) ≡ map ρ (include us v)
+  include-map us v all b = let i = index-map us v all b in let l = length-map us ρ in let m = map-push ρ us v in grind arith
 
-  pub variables-rename : (cs : List Cell) → variables (rename ρ cs) ≡ map ρ (variables cs)
-  variables-rename cs = collect-map [] cs
+  include-back : (us : List ℕ) (v : ℕ) → Every (Back ρ π) us → Back ρ π v → Every (Back ρ π) (include us v)
+  include-back us v all b = by-include us v (Every (Back ρ π)) (λ old. all) (λ new. all-push (Back ρ π) us v all b)
 
-  pub normalized-rename : (cs : List Cell) → normalized (rename ρ cs) ≡ normalized cs
-  normalized-rename cs =
-      ap (λ us. rename (index us) (rename ρ cs)) (variables-rename cs)
+  collect-map : (us : List ℕ) (cs : List Cell) → Every (Back ρ π) us → ((v : ℕ) → Occurs cs v → Back ρ π v)
+      → (collect (map ρ us) (rename ρ cs) ≡ map ρ (collect us cs)) × Every (Back ρ π) (collect us cs)
+  collect-map us [] all h = (refl, all)
+  collect-map us (symbol k f ∷ cs) all h = collect-map us cs all (λ v o. h v (suc (o .0), o .1))
+  collect-map us (variable v ∷ cs) all h =
+      let b = h v (0, refl) in
+      let r = collect-map (include us v) cs (include-back us v all b) (λ u o. h u (suc (o .0), o .1)) in
+      (ap (λ z. collect z (rename ρ cs)) (include-map us v all b) ∙ r .0, r .1)
+
+  pub variables-rename : (cs : List Cell) → ((v : ℕ) → Occurs cs v → Back ρ π v) → variables (rename ρ cs) ≡ map ρ (variables cs)
+  variables-rename cs h = collect-map [] cs tt h .0
+
+  pub normalized-rename : (cs : List Cell) → ((v : ℕ) → Occurs cs v → Back ρ π v) → normalized (rename ρ cs) ≡ normalized cs
+  normalized-rename cs h =
+      ap (λ us. rename (index us) (rename ρ cs)) (variables-rename cs h)
       ∙ rename-twice ρ (index (map ρ (variables cs))) cs
-      ∙ rename-agree (λ v. index (map ρ (variables cs)) (ρ v)) (index (variables cs)) cs (λ v o. index-map (variables cs) v)
+      ∙ rename-agree (λ v. index (map ρ (variables cs)) (ρ v)) (index (variables cs)) cs (λ v o. index-map (variables cs) v (collect-map [] cs tt h .1) (h v o))
 
 -- Variants.
 
@@ -113,7 +126,7 @@ chain r s t a b = (
 )
 
 same-form : (s t : List Cell) → Variant s t → normalized s ≡ normalized t
-same-form s t h = ap normalized (sym (h .3)) ∙ normalized-rename (h .0) (h .1) (h .2 .there) t
+same-form s t h = ap normalized (sym (h .3)) ∙ normalized-rename (h .0) (h .1) t (λ v o. h .2 .there v)
 
 pub variable-laws : VariableLaws
 variable-laws = record {

@@ -11,7 +11,7 @@ use Rattle.cells.specs.declared.row.Row.{Row}
 use Rattle.cells.specs.declared.names.Names.{Names}
 use Rattle.cells.specs.declared.rule.Rule.{Rule}
 use Rattle.cells.specs.Checks.{CheckedRow, RowFault}
-use Rattle.cells.specs.Rules.{Sides, sides, numbered, GoodSides, SidesFault}
+use Rattle.cells.specs.Rules.{Sides, sides, numbered, GoodLeft, LeftFault, GoodSides, SidesFault}
 
 -- the words of a checked row
 abbrev pub row-words : {N : ℕ} → Row N → List ℕ
@@ -27,6 +27,11 @@ rule-sides x = sides (row-words (x .left)) (row-words (x .right))
 abbrev pub RowMade : (N : ℕ) → List ℕ → Result (Row N) CellFault → Type 0
 RowMade N ws (Ok x) = CheckedRow N ws × (row-words x ≡ ws)
 RowMade N ws (Err f) = RowFault N ws f
+
+-- a left side that passes by itself is held as it is
+abbrev pub LeftMade : List ℕ → Result (Row 60) RuleFault → Type 0
+LeftMade ws (Ok x) = GoodLeft ws × (row-words x ≡ ws)
+LeftMade ws (Err f) = LeftFault ws f
 
 -- sides that pass are held numbered
 abbrev pub RuleMade : Sides → Result Rule RuleFault → Type 0

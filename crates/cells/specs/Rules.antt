@@ -70,6 +70,13 @@ pub record CheckedRule (s : Sides) : Type 0 where
   pub good : GoodSides s
   pub normal : numbered s ≡ s
 
+-- a left side does not pass by itself, and this is why
+abbrev pub LeftFault : List ℕ → RuleFault → Type 0
+LeftFault l (Cells Left f) = RowFault 60 l f
+LeftFault l (Cells Right f) = ⊥
+LeftFault l BareVariable = CheckedRow 60 l × (bare (row l) ≡ true)
+LeftFault l (NewVariable p) = ⊥
+
 -- the sides do not pass, and this is why: the first of these that fits
 abbrev pub SidesFault : Sides → RuleFault → Type 0
 SidesFault s (Cells Left f) = RowFault 60 (s .left) f

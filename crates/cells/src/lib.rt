@@ -12,6 +12,7 @@ pub use row::Formula;
 pub use row::Row;
 pub use row::RuleSide;
 pub use rule::Rule;
+pub use rule::calls::check_left;
 pub use theorems::laws;
 pub use word::FormulaVar;
 pub use word::RuleVar;

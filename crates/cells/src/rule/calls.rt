@@ -3,7 +3,7 @@ ghost use mathlib.Core.Path.{_≡_};
 ghost use Rattle.std.specs.declared.result.Result.the-variants.{Ok, Err};
 ghost use Rattle.cells.specs.Cells.{row};
 ghost use Rattle.cells.specs.Rules.{Sides, sides, size, bare};
-ghost use Rattle.cells.specs.Records.{RowMade, RuleMade, row-words, rule-sides};
+ghost use Rattle.cells.specs.Records.{RowMade, LeftMade, RuleMade, rule-sides};
 use super::Rule;
 use crate::row::Row;
 use crate::row::RuleSide;
@@ -30,15 +30,23 @@ fn is_bare(cells: &[u32]) -> bool
     cells.len() > 0 && cells[0] >= VARIABLE
 }
 
+// A left side that is no bare variable, or why it is refused.
+pub fn check_left(cells: &[u32]) -> Result<RuleSide, RuleFault>
+    ensures { λ r. ⌜ LeftMade (now (cells .entry)) r ⌝ }
+{
+    let left = check_side(Side::Left, cells)?;
+    if is_bare(left.cells()) {
+        return Err(RuleFault::BareVariable);
+    }
+    Ok(left)
+}
+
 impl Rule {
     // The numbered rule, or why the sides are refused.
     pub fn new(left: &[u32], right: &[u32]) -> Result<Rule, RuleFault>
         ensures { λ r. ⌜ RuleMade (sides (now (left .entry)) (now (right .entry))) r ⌝ }
     {
-        let from = check_side(Side::Left, left)?;
-        if is_bare(from.cells()) {
-            return Err(RuleFault::BareVariable);
-        }
+        let from = check_left(left)?;
         let to = check_side(Side::Right, right)?;
         let names = from.names();
         if let Some(place) = names.find_new(to.cells()) {

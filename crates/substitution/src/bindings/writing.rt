@@ -10,7 +10,7 @@ use super::Part;
 use cells::VARIABLE;
 
 // The part, as far as the source goes.
-fn clipped(source: &[u32], part: Part) -> &[u32]
+pub fn clipped(source: &[u32], part: Part) -> &[u32]
     ensures { λ r. ⌜ now r ≡ take (part .len) (drop (part .at) (now (source .entry))) ⌝ }
 {
     let start = part.at.min(source.len());

@@ -10,17 +10,12 @@ use Rattle.cells.proofs.Ruling.{rule-laws}
 use Rattle.cells.proofs.rule.Rule.new.Needs as need
 use Rattle.cells.proofs.rule.Rule.new.Needs.{After-find-new, After-renamed-2}
 
-left : (c : After-find-new) → GoodLeft (c .args .left .now)
-left c =
-    let (made, same) = c .in-Continue-from .ensures tt in
-    record { checked = made; proper = ap (λ z. bare (row z)) (sym (c .cells .ensures .value ∙ same)) ∙ sym (c .is-bare .ensures) ∙ c .if-is-bare .left }
-
 -- the names are the left side's variables
 names : (c : After-find-new) → names-list (c .names-names .result) ≡ variables (row (c .args .left .now))
 names c = c .names-names .ensures ∙ ap (λ z. variables (row z)) (c .in-Continue-from .ensures tt .1)
 
-right : (c : After-find-new) → c .cells-2 .result .now ≡ c .args .right .now
-right c = c .cells-2 .ensures .value ∙ c .in-Continue-to .ensures tt .1
+right : (c : After-find-new) → c .cells .result .now ≡ c .args .right .now
+right c = c .cells .ensures .value ∙ c .in-Continue-to .ensures tt .1
 
 pub returns-in-Some : need.returns-in-Some
 returns-in-Some c =
@@ -28,8 +23,8 @@ returns-in-Some c =
     let l = row (c .args .left .now) in
     let f : FirstWithout (Listed (variables l)) (row (c .args .right .now)) (c .in-Some .place) =
     subst (λ z. FirstWithout (Listed (variables l)) (row z) (c .in-Some .place)) (right a)
-    (subst (λ us. FirstWithout (Listed us) (row (c .cells-2 .result .now)) (c .in-Some .place)) (names a) (c .in-Some .ensures tt)) in (
-      left a,
+    (subst (λ us. FirstWithout (Listed us) (row (c .cells .result .now)) (c .in-Some .place)) (names a) (c .in-Some .ensures tt)) in (
+      c .in-Continue-from .ensures tt .0,
       c .in-Continue-to .ensures tt .0,
       record {
         v = f .v;
@@ -44,8 +39,8 @@ good c =
     let a = need.at·After-renamed-2 c .After-find-new in
     let l = row (c .args .left .now) in
     let e : Each (Listed (variables l)) (row (c .args .right .now)) =
-    subst (λ z. Each (Listed (variables l)) (row z)) (right a) (subst (λ us. Each (Listed us) (row (c .cells-2 .result .now))) (names a) (c .in-rest .ensures tt)) in
-    record { left = left a; right = c .in-Continue-to .ensures tt .0; covered = λ k v s. variable-laws .listed l v .1 (e k v s) }
+    subst (λ z. Each (Listed (variables l)) (row z)) (right a) (subst (λ us. Each (Listed us) (row (c .cells .result .now))) (names a) (c .in-rest .ensures tt)) in
+    record { left = c .in-Continue-from .ensures tt .0; right = c .in-Continue-to .ensures tt .0; covered = λ k v s. variable-laws .listed l v .1 (e k v s) }
 
 -- both sides are renamed by the left side's variables
 made : (c : After-renamed-2) → sides (row-words (c .renamed .result)) (row-words (c .renamed-2 .result)) ≡ numbered (sides (c .args .left .now) (c .args .right .now))

@@ -1,0 +1,6 @@
+pub mod Relations
+pub mod Marked
+pub mod Extending
+pub mod Walking
+pub mod Refusals
+pub mod Bound
