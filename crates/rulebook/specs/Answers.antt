@@ -15,9 +15,9 @@ use Rattle.cells.specs.Records.{rule-sides}
 use Rattle.refusals.specs.Refusals.{cell-refusal, rule-refusal, side-of}
 use Rattle.rulebook.specs.declared.answer.Answer.{Answer}
 use Rattle.rulebook.specs.declared.answer.Answer.the-variants.{Formula, Rule, Refused, SideRefused}
-use Rattle.rulebook.specs.declared.call.Call.{Call}
-use Rattle.rulebook.specs.declared.call.Call.the-variants.{CheckFormula, CheckRule}
-use Rattle.rulebook.specs.declared.call.SideCells.{SideCells}
+use Rattle.script.specs.declared.call.Call.{Call}
+use Rattle.script.specs.declared.call.Call.the-variants.{CheckFormula, CheckRule}
+use Rattle.script.specs.declared.call.SideCells.{SideCells}
 
 abbrev pub refuses : Answer → Bool
 refuses (Formula size) = false

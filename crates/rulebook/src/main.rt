@@ -1,21 +1,18 @@
 // Reads a script of calls, one a line, makes each call and prints what it answers.
 mod answer;
-mod call;
-mod parse;
 mod perform;
-mod script;
+mod source;
 mod tally;
-mod trouble;
 
 use answer::AnswerDisplay;
-use parse::parse_line;
 use perform::perform;
-use script::read_script;
+use script::LineFaultDisplay;
+use script::Trouble;
+use script::parse_line;
+use source::read_script;
 use std::error::AnyError;
 use tally::Tally;
 use tally::TallyDisplay;
-use trouble::LineFaultDisplay;
-use trouble::Trouble;
 
 // Makes the call of a line, if it has one, and prints what comes of it.
 fn play_line(

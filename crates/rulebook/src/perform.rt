@@ -2,10 +2,10 @@
 ghost use Rattle.rulebook.specs.Answers.{FormulaAnswer, RuleAnswer, typed-sides, Answers};
 use crate::answer::Answer;
 use crate::answer::FormulaSize;
-use crate::call::Call;
-use crate::call::SideCells;
 use cells::Formula;
 use cells::Rule;
+use script::Call;
+use script::SideCells;
 
 fn check_formula(cells: &[u32]) -> Answer
     ensures { λ r. ⌜ FormulaAnswer (now (cells .entry)) r ⌝ }

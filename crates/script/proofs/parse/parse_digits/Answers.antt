@@ -1,9 +1,9 @@
 use mathlib.Core.Path.{sym, subst}
 use native.Mathlib.Omega.{arith}
 use Rattle.std.proofs.shelf.Patterns.{starts-char}
-use Rattle.rulebook.specs.Typed.{Reads}
-use Rattle.rulebook.proofs.Digits.{plain}
-use Rattle.rulebook.proofs.parse.parse_digits.Needs as need
+use Rattle.script.specs.Typed.{Reads}
+use Rattle.script.proofs.Digits.{plain}
+use Rattle.script.proofs.parse.parse_digits.Needs as need
 
 pub returns : need.returns
 returns c =

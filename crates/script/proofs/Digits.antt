@@ -12,7 +12,7 @@ use Rattle.std.specs.Orderings.{Decides}
 use Rattle.std.specs.Reads.{ReadsUnsigned}
 use Rattle.std.specs.Results.{okPart}
 use Rattle.std.proofs.shelf.Numerals.{afterPlus-none}
-use Rattle.rulebook.specs.Typed.{Reads}
+use Rattle.script.specs.Typed.{Reads}
 
 by-ok : {T E : Type 0} (r : Result T E) (P : Type 0) (v : T) → Converted r P v → Checked (okPart r) P v
 by-ok (Ok x) P v h = h
