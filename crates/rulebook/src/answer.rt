@@ -2,6 +2,7 @@
 ghost use mathlib.Core.Path.{_≡_};
 ghost use Rattle.rulebook.specs.Answers.{refuses};
 use cells::Rule;
+use matching::MatchFault;
 use refusals::Refusal;
 use refusals::Side;
 use std::fmt;
@@ -13,19 +14,32 @@ pub struct FormulaSize {
     pub variables: usize,
 }
 
+// A part of a row, with its position.
+#[derive(Drop)]
+pub struct PartCells {
+    pub at: usize,
+    pub cells: Vec<u32>,
+}
+
 #[derive(Drop)]
 pub enum Answer {
     Formula(FormulaSize),
     Rule(Rule),
     Refused(Refusal),
     SideRefused(Side, Refusal),
+    Part(PartCells),
+    Nothing,
+    PairRefused(MatchFault),
 }
 
 impl Answer {
     pub fn is_refusal(&self) -> bool
         ensures { λ r. ⌜ r ≡ refuses (now (self .entry)) ⌝ }
     {
-        matches!(self, Answer::Refused(_) | Answer::SideRefused(_, _))
+        matches!(
+            self,
+            Answer::Refused(_) | Answer::SideRefused(_, _) | Answer::PairRefused(_)
+        )
     }
 }
 
@@ -57,6 +71,14 @@ impl fmt::Display for RefusalText as RefusalTextDisplay {
     }
 }
 
+// The row of a pair that is refused.
+fn pair_side(fault: MatchFault) -> &'static str {
+    match fault {
+        MatchFault::Left(_) => "left",
+        MatchFault::Formula(_) => "formula",
+    }
+}
+
 fn side_name(side: Side) -> &'static str {
     match side {
         Side::Left => "left",
@@ -83,6 +105,19 @@ pub impl fmt::Display for Answer as AnswerDisplay {
                 "{} {}",
                 side_name(*side),
                 RefusalText(*refusal)
+            ),
+            Answer::Part(PartCells { at, cells }) => write!(
+                f,
+                "part {at} {}: {}",
+                cells.len(),
+                CellsText(cells.as_slice())
+            ),
+            Answer::Nothing => write!(f, "none"),
+            Answer::PairRefused(fault) => write!(
+                f,
+                "{} {}",
+                pair_side(*fault),
+                RefusalText(fault.told())
             ),
         }
     }

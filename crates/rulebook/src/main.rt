@@ -24,7 +24,7 @@ fn play_line(
     match parse_line(rt.alloc(), line) {
         Ok(None) => {}
         Ok(Some(call)) => {
-            let answer = perform(&call);
+            let answer = perform(rt.alloc(), &call)?;
             tally.count(&answer);
             println!(rt, "{answer}")?;
         }

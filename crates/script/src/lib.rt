@@ -3,8 +3,10 @@ mod call;
 mod parse;
 mod trouble;
 
+pub use call::BindCall;
 pub use call::Call;
-pub use call::SideCells;
+pub use call::Pair;
+pub use call::Relation;
 pub use parse::parse_line;
 pub use trouble::LineFault;
 pub use trouble::LineFaultDisplay;

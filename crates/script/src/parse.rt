@@ -8,8 +8,10 @@ ghost use Rattle.std.specs.Results.{okPart};
 ghost use Rattle.std.specs.Vec.{made, refused};
 ghost use Rattle.script.specs.declared.trouble.LineFault.the-variants.{NoNumber};
 ghost use Rattle.script.specs.Typed.{Reads, Typed, AllTyped};
+use crate::call::BindCall;
 use crate::call::Call;
-use crate::call::SideCells;
+use crate::call::Pair;
+use crate::call::Relation;
 use crate::trouble::LineFault;
 use crate::trouble::Trouble;
 use crate::trouble::TroubleFromAlloc;
@@ -17,7 +19,10 @@ use crate::trouble::TroubleFromLine;
 use crate::trouble::TroubleFromRefused;
 use std::alloc::Global;
 
+// What stands between the sides of a rule, and between a left side and a formula.
 const ARROW: &str = "->";
+
+const BAR: &str = "|";
 
 // The line without its comment.
 fn before_comment(line: &str) -> &str {
@@ -74,29 +79,60 @@ fn parse_cells<'a>(heap: Global, words: &[&'a str]) -> Result<Vec<u32>, Trouble<
     Ok(cells)
 }
 
-// Where the first arrow stands.
-fn find_arrow(words: &[&str]) -> Option<usize>
+// Where the mark stands first.
+fn find_mark(words: &[&str], mark: &str) -> Option<usize>
     ensures { λ r. ⌜ BySome r (Unit {0}) (λ i. i < length (now (words .entry))) ⌝ }
 {
     for (i, word) in words.iter().enumerate() {
-        if *word == ARROW {
+        if *word == mark {
             return Some(i);
         }
     }
     None
 }
 
-fn parse_sides<'a>(heap: Global, words: &[&'a str]) -> Result<SideCells, Trouble<'a>> {
-    let Some(arrow) = find_arrow(words) else {
-        return Err(LineFault::NoArrow.into());
+// The rows before and after the mark.
+fn parse_pair<'a>(
+    heap: Global,
+    words: &[&'a str],
+    mark: &'static str,
+) -> Result<Pair, Trouble<'a>> {
+    let Some(at) = find_mark(words, mark) else {
+        return Err(LineFault::NoMark(mark).into());
     };
-    let behind = &words[arrow + 1..];
-    if find_arrow(behind).is_some() {
-        return Err(LineFault::SecondArrow.into());
+    let behind = &words[at + 1..];
+    if find_mark(behind, mark).is_some() {
+        return Err(LineFault::SecondMark(mark).into());
     }
-    let left = parse_cells(heap, &words[0..arrow])?;
+    let left = parse_cells(heap, &words[0..at])?;
     let right = parse_cells(heap, behind)?;
-    Ok(SideCells { left, right })
+    Ok(Pair { left, right })
+}
+
+fn parse_relation(word: &str) -> Result<Relation, LineFault<'_>> {
+    match word {
+        "general" => Ok(Relation::General),
+        "instance" => Ok(Relation::Instance),
+        "variant" => Ok(Relation::Variant),
+        "unifiable" => Ok(Relation::Unifiable),
+        _ => Err(LineFault::UnknownRelation(word)),
+    }
+}
+
+fn parse_bind<'a>(
+    heap: Global,
+    relation: &'a str,
+    variable: &'a str,
+    rows: &[&'a str],
+) -> Result<BindCall, Trouble<'a>> {
+    let relation = parse_relation(relation)?;
+    let variable = parse_cell(variable)?;
+    let rows = parse_pair(heap, rows, BAR)?;
+    Ok(BindCall {
+        relation,
+        variable,
+        rows,
+    })
 }
 
 // The call that the words of a line make. A line with no words makes none, and does not come here.
@@ -105,9 +141,13 @@ fn parse_call<'a>(heap: Global, words: &[&'a str]) -> Result<Call, Trouble<'a>>
 {
     match words {
         ["check", "formula", cells @ ..] => Ok(Call::CheckFormula(parse_cells(heap, cells)?)),
-        ["check", "rule", sides @ ..] => Ok(Call::CheckRule(parse_sides(heap, sides)?)),
+        ["check", "rule", sides @ ..] => Ok(Call::CheckRule(parse_pair(heap, sides, ARROW)?)),
         ["check", word, ..] => Err(LineFault::UnknownCheck(word).into()),
         ["check"] => Err(LineFault::NothingToCheck.into()),
+        ["bind", relation, variable, rows @ ..] => Ok(Call::Bind(
+            parse_bind(heap, relation, variable, rows)?,
+        )),
+        ["bind", ..] => Err(LineFault::NothingToBind.into()),
         [word, ..] => Err(LineFault::UnknownCall(word).into()),
         [] => unreachable(),
     }

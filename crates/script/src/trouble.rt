@@ -10,8 +10,10 @@ pub enum LineFault<'a> {
     UnknownCheck(&'a str),
     NothingToCheck,
     NoNumber(&'a str),
-    NoArrow,
-    SecondArrow,
+    NoMark(&'static str),
+    SecondMark(&'static str),
+    UnknownRelation(&'a str),
+    NothingToBind,
 }
 
 pub impl fmt::Display for LineFault<'_> as LineFaultDisplay {
@@ -21,8 +23,13 @@ pub impl fmt::Display for LineFault<'_> as LineFaultDisplay {
             LineFault::UnknownCheck(word) => write!(f, "unknown call `check {word}`"),
             LineFault::NothingToCheck => write!(f, "`check` wants `formula` or `rule`"),
             LineFault::NoNumber(word) => write!(f, "`{word}` is no number that fits 32 bits"),
-            LineFault::NoArrow => write!(f, "`->` is missing between the sides"),
-            LineFault::SecondArrow => write!(f, "`->` is repeated"),
+            LineFault::NoMark(mark) => write!(f, "`{mark}` is missing between the sides"),
+            LineFault::SecondMark(mark) => write!(f, "`{mark}` is repeated"),
+            LineFault::UnknownRelation(word) => write!(f, "unknown relation `{word}`"),
+            LineFault::NothingToBind => write!(
+                f,
+                "`bind` wants a relation, a variable and two rows"
+            ),
         }
     }
 }
