@@ -39,5 +39,7 @@ pub fn is_instance(left: &RuleSide, formula: &Formula) -> bool
 pub fn is_variant(left: &RuleSide, formula: &Formula) -> bool
     ensures { λ r. ⌜ Decides r (Variant (row (row-words (now (left .entry)))) (row (row-words (now (formula .entry))))) ⌝ }
 {
-    is_general(left, formula) && is_instance(left, formula)
+    let there = is_general(left, formula);
+    let back = is_instance(left, formula);
+    there && back
 }
