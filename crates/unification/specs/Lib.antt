@@ -1,0 +1,9 @@
+pub mod Codes
+pub mod Rows
+pub mod Graph
+pub mod Memory
+pub mod Close
+pub mod Finite
+pub mod Number
+pub mod Forms
+pub mod Laws
