@@ -1,4 +1,6 @@
 // Cells, rows of cells, rules, and what is checked of them. The lowest layer: everything above stands on these definitions.
+#![tactic(auto)]
+
 mod check;
 mod names;
 mod row;

@@ -1,4 +1,6 @@
 // Matching: the relations of a left side to a formula.
+#![tactic(auto)]
+
 mod deciding;
 mod fault;
 mod finding;

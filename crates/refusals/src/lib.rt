@@ -1,4 +1,6 @@
 // Why a row, a rule or a number is refused, and what is told of it.
+#![tactic(auto)]
+
 ghost use Rattle.std.specs.Prelude.{◌≡◌};
 ghost use Rattle.refusals.specs.Refusals.{refusal, cell_refusal, rule_refusal, number_refusal, side_of, layer_name};
 ghost use Rattle.refusals.specs.declared.RuleFault.TheVariants.{Cells};

@@ -1,4 +1,6 @@
 // Reads a script of calls, one a line, makes each call and prints what it answers.
+#![tactic(auto)]
+
 mod answer;
 mod perform;
 mod source;

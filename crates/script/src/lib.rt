@@ -1,4 +1,6 @@
 // The script language: from a line to the call that it makes.
+#![tactic(auto)]
+
 mod call;
 mod parse;
 mod trouble;

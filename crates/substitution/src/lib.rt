@@ -1,4 +1,6 @@
 // Substitutions given by parts of a row, and writing a row under one.
+#![tactic(auto)]
+
 mod bindings;
 mod trial;
 

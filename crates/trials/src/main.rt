@@ -1,4 +1,6 @@
 // Compares the library with a second, naive matcher and unifier, on some thousands of pairs of small rows.
+#![tactic(auto)]
+
 mod compare;
 mod forms;
 mod naive;

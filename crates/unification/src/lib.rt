@@ -1,4 +1,6 @@
 // Unification: whether a left side and a formula have a common form, and which.
+#![tactic(auto)]
+
 mod deciding;
 mod engine;
 mod fault;

@@ -4,12 +4,12 @@ use Rattle.std.specs.List.{between}
 use Rattle.cells.specs.Cells.{cell, row}
 use Rattle.cells.proofs.Terms.{Reads, reads_terms, reads_next, no_whole, none_past}
 use Rattle.cells.proofs.check.term_end.Goals as goal
-use Rattle.cells.proofs.check.term_end.Goals.{After-arity-of-more}
+use Rattle.cells.proofs.check.term_end.Goals.{After-arity_of-more}
 
 -- one more cell
-next : (c : After-arity-of-more) → Reads 1 (between c.args.at (c.loop-need.end + 1) (row c.args.cells.now)) (c.loop-need.need - 1 + c.arity-of-more.result)
+next : (c : After-arity_of-more) → Reads 1 (between c.args.at (c.loop-need.end + 1) (row c.args.cells.now)) (c.loop-need.need - 1 + c.arity_of-more.result)
 next c =
-    subst (λ a. Reads 1 (between c.args.at (c.loop-need.end + 1) (row c.args.cells.now)) (c.loop-need.need - 1 + a)) (sym c.arity-of-more.ensures)
+    subst (λ a. Reads 1 (between c.args.at (c.loop-need.end + 1) (row c.args.cells.now)) (c.loop-need.need - 1 + a)) (sym c.arity_of-more.ensures)
     (reads_next c.args.cells.now c.args.at c.loop-need.end c.loop-need.need (omega arith) (omega arith) (omega arith) c.loop-need.invariant.3)
 
 pub returns-then-at-cells : goal.returns-then-at-cells
@@ -20,10 +20,10 @@ returns-then-more-cells c = λ e w.
     let d = drop c.args.at (row c.args.cells.now) in
     let a = length-drop c.args.at (row c.args.cells.now) in
     let b = length-map c.args.cells.now cell in
-    no_whole d (c.loop-need.end + 1 - c.args.at) (c.loop-need.need - 1 + c.arity-of-more.result) (next (goal.at.returns-then-more-cells c).After-arity-of-more) (omega arith) (e - c.args.at) w
+    no_whole d (c.loop-need.end + 1 - c.args.at) (c.loop-need.need - 1 + c.arity_of-more.result) (next (goal.at.returns-then-more-cells c).After-arity_of-more) (omega arith) (e - c.args.at) w
 
 pub loop-need-preserved : goal.loop-need-preserved
-loop-need-preserved c = (omega arith, omega arith, omega arith, next (goal.at.loop-need-preserved c).After-arity-of-more)
+loop-need-preserved c = (omega arith, omega arith, omega arith, next (goal.at.loop-need-preserved c).After-arity_of-more)
 
 pub returns : goal.returns
 returns c =

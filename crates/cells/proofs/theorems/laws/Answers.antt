@@ -15,7 +15,7 @@ returns g c = record {
   variables = variable_laws;
   values = value_laws;
   integers = value_laws;
-  row-answer = one_row_answer;
-  rule-answer = one_sides_answer;
+  row_answer = one_row_answer;
+  rule_answer = one_sides_answer;
   rules = rule_laws;
 }

@@ -11,8 +11,8 @@ use Rattle.cells.proofs.row.Row.names.Goals.{then-lacks, else-lacks}
 pub loop-w-init : goal.loop-w-init
 loop-w-init g c = (length-replicate g.row.N 0, omega arith, refl)
 
-pub slice-bounds-lacks-end : goal.slice-bounds-lacks-end
-slice-bounds-lacks-end g c =
+pub slice_bounds-lacks-end : goal.slice_bounds-lacks-end
+slice_bounds-lacks-end g c =
     let x = c.args.self.now in
     let h = x.fits in
     let l = ap length c.cells-w-items.ensures.value in
@@ -50,10 +50,10 @@ loop-w-preserved g c =
       )
     ]
 
-pub invariant-of-result : goal.invariant-of-result
-invariant-of-result g c =
+pub invariant_of-result : goal.invariant_of-result
+invariant_of-result g c =
     let x = c.args.self.now in
-    (omega (arith, x.fits, ap length c.cells-w-items.ensures.value, length-take x.count x.cells), tt)
+    record { fits = omega (arith, x.fits, ap length c.cells-w-items.ensures.value, length-take x.count x.cells) }
 
 pub returns : goal.returns
 returns g c =

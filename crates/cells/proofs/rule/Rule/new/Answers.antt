@@ -8,24 +8,24 @@ use Rattle.cells.specs.Records.{row_words, names_list}
 use Rattle.cells.proofs.Variants.{variable_laws}
 use Rattle.cells.proofs.Ruling.{rule_laws}
 use Rattle.cells.proofs.rule.Rule.new.Goals as goal
-use Rattle.cells.proofs.rule.Rule.new.Goals.{After-find-new, After-renamed-2}
+use Rattle.cells.proofs.rule.Rule.new.Goals.{After-find_new, After-renamed-2}
 
 -- the names are the left side's variables
-names : (c : After-find-new) → names_list c.names-names.result ≡ variables (row c.args.left.now)
-names c = c.names-names.ensures ∙ ap (λ z. variables (row z)) c.in-ok-from.ensures.1
+names : (c : After-find_new) → names_list c.names-names.result ≡ variables (row c.args.left.now)
+names c = c.names-names.ensures ∙ ap (λ z. variables (row z)) c.in_ok-from.ensures.1
 
-right : (c : After-find-new) → c.cells.result.now ≡ c.args.right.now
-right c = c.cells.ensures.value ∙ c.in-ok-to.ensures.1
+right : (c : After-find_new) → c.cells.result.now ≡ c.args.right.now
+right c = c.cells.ensures.value ∙ c.in_ok-to.ensures.1
 
 pub returns-in-Some : goal.returns-in-Some
 returns-in-Some c =
-    let a = (goal.at.returns-in-Some c).After-find-new in
+    let a = (goal.at.returns-in-Some c).After-find_new in
     let l = row c.args.left.now in
     let f : FirstWithout (Listed (variables l)) (row c.args.right.now) c.in-Some.place =
     subst (λ z. FirstWithout (Listed (variables l)) (row z) c.in-Some.place) (right a)
     (subst (λ us. FirstWithout (Listed us) (row c.cells.result.now) c.in-Some.place) (names a) c.in-Some.ensures) in (
-      c.in-ok-from.ensures.0,
-      c.in-ok-to.ensures.0,
+      c.in_ok-from.ensures.0,
+      c.in_ok-to.ensures.0,
       record {
         v = f.v;
         here = f.here;
@@ -36,24 +36,24 @@ returns-in-Some c =
 
 good : (c : After-renamed-2) → GoodSides (sides c.args.left.now c.args.right.now)
 good c =
-    let a = (goal.at.After-renamed-2 c).After-find-new in
+    let a = (goal.at.After-renamed-2 c).After-find_new in
     let l = row c.args.left.now in
     let e : Each (Listed (variables l)) (row c.args.right.now) =
-    subst (λ z. Each (Listed (variables l)) (row z)) (right a) (subst (λ us. Each (Listed us) (row c.cells.result.now)) (names a) c.in-default.ensures) in
-    record { left = c.in-ok-from.ensures.0; right = c.in-ok-to.ensures.0; covered = λ k v s. (variable_laws.listed l v).1 (e k v s) }
+    subst (λ z. Each (Listed (variables l)) (row z)) (right a) (subst (λ us. Each (Listed us) (row c.cells.result.now)) (names a) c.in_default.ensures) in
+    record { left = c.in_ok-from.ensures.0; right = c.in_ok-to.ensures.0; covered = λ k v s. (variable_laws.listed l v).1 (e k v s) }
 
 -- both sides are renamed by the left side's variables
 made : (c : After-renamed-2) → sides (row_words c.renamed.result) (row_words c.renamed-2.result) ≡ numbered (sides c.args.left.now c.args.right.now)
 made c =
-    let n = names (goal.at.After-renamed-2 c).After-find-new in
-    let l = c.renamed.ensures ∙ (λ j. words (rename (index (n j)) (row (c.in-ok-from.ensures.1 j)))) in
-    let r = c.renamed-2.ensures ∙ (λ j. words (rename (index (n j)) (row (c.in-ok-to.ensures.1 j)))) in
+    let n = names (goal.at.After-renamed-2 c).After-find_new in
+    let l = c.renamed.ensures ∙ (λ j. words (rename (index (n j)) (row (c.in_ok-from.ensures.1 j)))) in
+    let r = c.renamed-2.ensures ∙ (λ j. words (rename (index (n j)) (row (c.in_ok-to.ensures.1 j)))) in
     λ j. sides (l j) (r j)
 
-pub invariant-of-result : goal.invariant-of-result
-invariant-of-result c =
+pub invariant_of-result : goal.invariant_of-result
+invariant_of-result c =
     let s = sides c.args.left.now c.args.right.now in
-    (ap rule_ok (made c) ∙ (rule_laws.checked (numbered s)).1 (rule_laws.numbers s (good c)), tt)
+    record { checked = ap rule_ok (made c) ∙ (rule_laws.checked (numbered s)).1 (rule_laws.numbers s (good c)) }
 
 pub returns : goal.returns
 returns c = let a = (goal.at.returns c).After-renamed-2 in (good a, made a)

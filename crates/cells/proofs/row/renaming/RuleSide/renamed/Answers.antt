@@ -18,28 +18,26 @@ take_over f (suc n) (w ∷ ws) = ap (λ z. f w ∷ z) (take_over f n ws)
 front : (us vs ws now : List ℕ) (n : ℕ) → us ≡ vs → now ≡ map (renamed_word (index us)) (take (n - 0) ws) → take n (now ++ drop (n - 0) ws) ≡ map (renamed_word (index vs)) (take n ws)
 front us vs ws now n p q = let z = sub-zero n in let e = take_over (renamed_word (index vs)) n ws in cc
 
-pub rename-words-requires : goal.rename-words-requires
-rename-words-requires c =
+pub rename_words-requires : goal.rename_words-requires
+rename_words-requires c =
     let n = c.args.names.now in
     let e = ap length c.list.ensures in
     omega (arith, n.fits, length-take n.count n.numbers)
 
-pub invariant-of-result : goal.invariant-of-result
-invariant-of-result c =
+pub invariant_of-result : goal.invariant_of-result
+invariant_of-result c =
     let n = c.args.names.now in
     let x = c.args.self.now in
     let ρ = index (names_list n) in
-    let e = front c.list.result.now (names_list n) x.cells c.rename-words.new.cells x.count c.list.ensures c.rename-words.ensures in (
-      x.fits,
-      (
-        subst AllCells (sym e) (renamed_cells ρ (row_words x) (λ v. omega (arith, n.fits, length-take n.count n.numbers, index_le (names_list n) v)) x.good),
-        (subst (λ ws. Whole (row ws)) (sym e) (renamed_whole ρ (row_words x) x.whole), tt),
-      ),
-    )
+    let e = front c.list.result.now (names_list n) x.cells c.rename_words.new.cells x.count c.list.ensures c.rename_words.ensures in record {
+      fits = x.fits;
+      good = subst AllCells (sym e) (renamed_cells ρ (row_words x) (λ v. omega (arith, n.fits, length-take n.count n.numbers, index_le (names_list n) v)) x.good);
+      whole = subst (λ ws. Whole (row ws)) (sym e) (renamed_whole ρ (row_words x) x.whole);
+    }
 
 pub returns : goal.returns
 returns c =
     let n = c.args.names.now in
     let x = c.args.self.now in
-    front c.list.result.now (names_list n) x.cells c.rename-words.new.cells x.count c.list.ensures c.rename-words.ensures
+    front c.list.result.now (names_list n) x.cells c.rename_words.new.cells x.count c.list.ensures c.rename_words.ensures
     ∙ sym (words_rename (index (names_list n)) (row_words x))
