@@ -4,8 +4,8 @@ use Rattle.substitution.specs.Bindings.{bindings_list, under}
 use Rattle.substitution.proofs.Under.{under_more, length_under_more, under_le}
 use Rattle.substitution.proofs.bindings.writing.write_under.Goals as goal
 
-pub push-words-n-requires : goal.push-words-n-requires
-push-words-n-requires c =
+pub push_words-n-requires : goal.push_words-n-requires
+push_words-n-requires c =
     let s = c.args.source.now in
     let b = bindings_list c.args.bindings.now in
     let p = c.args.pattern.now in
@@ -23,10 +23,10 @@ loop-i-preserved c =
     let e = length_under_more s b p c.loop-i.i (omega arith) in
     let l = ap length c.piece.ensures in
     let x = length c.piece.result.now in
-    let n = c.push-words-n.ensures.end in (
+    let n = c.push_words-n.ensures.end in (
       omega arith,
-      c.push-words-n.ensures.front ∙ (λ j. c.loop-i.invariant.1 j ++ c.piece.ensures j) ∙ sym u,
-      c.push-words-n.ensures.rest ∙ ap (λ k. drop k c.loop-i.out) n ∙ sym (drop-drop x c.loop-i.n c.loop-i.out) ∙ ap (drop x) c.loop-i.invariant.2 ∙ drop-drop x c.loop-i.n c.args.out.now ∙ ap (λ k. drop k c.args.out.now) (sym n),
+      c.push_words-n.ensures.front ∙ (λ j. c.loop-i.invariant.1 j ++ c.piece.ensures j) ∙ sym u,
+      c.push_words-n.ensures.rest ∙ ap (λ k. drop k c.loop-i.out) n ∙ sym (drop-drop x c.loop-i.n c.loop-i.out) ∙ ap (drop x) c.loop-i.invariant.2 ∙ drop-drop x c.loop-i.n c.args.out.now ∙ ap (λ k. drop k c.args.out.now) (sym n),
     )
 
 pub returns : goal.returns
