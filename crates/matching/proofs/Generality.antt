@@ -3,7 +3,7 @@ use Rattle.std.proofs.Common.{◌≡◌, ℕ, ◌-◌, ◌≤◌, min, false, eq
 use lib.ListN.{length-map}
 use Rattle.std.specs.List.{between}
 use Rattle.std.proofs.lemmas.List.{take_all}
-use Rattle.std.proofs.lemmas.Bool.{false≢true, eqb_true, eq-eqb}
+use Rattle.std.proofs.lemmas.Bool.{false≢true, eqb-true, eq-eqb}
 use Rattle.cells.specs.Cells.{Cell, variable, cell, word, row}
 use Rattle.cells.specs.Rows.{Whole}
 use Rattle.cells.specs.Substitutions.{Substitution, substitute}
@@ -55,7 +55,7 @@ module _ (source : List ℕ) (s : List Cell) (b : List Binding) where
   pub decided_some : (e : ℕ) → Matched source [] s 0 e b → Decides (eqb e (length source)) (General s (row source))
   decided_some e h = (
     (λ t.
-        let l = eqb_true e (length source) t in
+        let l = eqb-true e (length source) t in
         let f = fitting source [] b s 0 e h (λ u p x. absurd (none_bound u p x)) in
         (f.0, record { whole = f.1; makes = f.3 ∙ all (e - 0) (omega arith) })),
     (λ g.

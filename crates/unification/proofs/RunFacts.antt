@@ -1,6 +1,6 @@
 -- Closing and solving as such, without a program: rows that one replacement makes one have a most general one. Assumes nothing.
 use Rattle.std.proofs.Common.{◌≡◌, ℕ, zero, suc, ◌+◌, ◌<◌, ◌≤◌, Bool, true, false, cond, eqb, ◌≢◌, List, [], ◌∷◌, ◌++◌, length, sym, refl, ap, ◌∙◌, subst, inl, inr, le_refl, arith, length-append}
-use Rattle.std.proofs.lemmas.Bool.{eqb_true, eqb-false}
+use Rattle.std.proofs.lemmas.Bool.{eqb-true, eqb-false}
 use Rattle.unification.specs.Graph.{Graph, Laws, Links, find, canon, norm, In, val, SameVal, Sat, Sols, Sol, Made}
 use Rattle.unification.specs.Graph.Sols.{none, more}
 use Rattle.unification.specs.Close.{Place, Fit, Out, WholeFor, General, Solved}
@@ -85,7 +85,7 @@ module _ (G : Graph) (W : Laws G) (n cap : ℕ) (inner : (x : ℕ) → x < n →
           → (M : Links) × (r : Bool) × Out G n cap L M (i ∷ ps) (j ∷ qs) r
       same sx sy false t = (L, false, out_clash G W n cap L i j x y refl refl rx ry sx sy F ps qs (eqb-false (G.cell x) (G.cell y) t))
       same sx sy true t =
-          let e = eqb_true (G.cell x) (G.cell y) t in
+          let e = eqb-true (G.cell x) (G.cell y) t in
           let k : length (G.kids x) ≡ length (G.kids y) = W.many x ∙ ap G.need e ∙ sym (W.many y) in
           let (M, r, O) = rec (G.kids x) (G.kids y) (L ++ ((x, y) ∷ [])) fxy (grown x y) (inner x (place_low x px sx)) (inner y (place_low y py sy)) k in
           down sx sy e M r O
@@ -119,7 +119,7 @@ module _ (G : Graph) (W : Laws G) (n cap : ℕ) (inner : (x : ℕ) → x < n →
 
       by : ((L : Links) → Fit G n cap L → cap ≤ length L + fuel → (M : Links) × (r : Bool) × Out G n cap L M ps qs r)
           → (b : Bool) → eqb (norm G L i) (norm G L j) ≡ b → (M : Links) × (r : Bool) × Out G n cap L M (i ∷ ps) (j ∷ qs) r
-      by again true t = let (M, r, O) = again L F c in (M, r, out_same G W n cap L M i j ps qs r (eqb_true (norm G L i) (norm G L j) t) O)
+      by again true t = let (M, r, O) = again L F c in (M, r, out_same G W n cap L M i j ps qs r (eqb-true (norm G L i) (norm G L j) t) O)
       by again false t = apart (eqb-false (norm G L i) (norm G L j) t) fuel refl
 
   pub run : (fuel : ℕ) → Run fuel

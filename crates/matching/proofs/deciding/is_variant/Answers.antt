@@ -8,9 +8,9 @@ use Rattle.matching.proofs.deciding.is_variant.Goals as goal
 pub returns-then-there : goal.returns-then-there
 returns-then-there c =
     let m = relation_laws.mutual_variants (row (row_words c.args.left.now)) (row (row_words c.args.formula.now)) in
-    ((λ t. m.1 (c.is-general-there.ensures.0 c.if-there.true, c.is-instance-back.ensures.0 t)), (λ h. c.is-instance-back.ensures.1 (m.0 h).1))
+    ((λ t. m.1 (c.is_general-there.ensures.0 c.if-there.true, c.is_instance-back.ensures.0 t)), (λ h. c.is_instance-back.ensures.1 (m.0 h).1))
 
 pub returns-else-there : goal.returns-else-there
 returns-else-there c =
     let m = relation_laws.mutual_variants (row (row_words c.args.left.now)) (row (row_words c.args.formula.now)) in
-    ((λ t. absurd (true≢false (sym t ∙ c.if-there.false))), (λ h. c.is-general-there.ensures.1 (m.0 h).0))
+    ((λ t. absurd (true≢false (sym t ∙ c.if-there.false))), (λ h. c.is_general-there.ensures.1 (m.0 h).0))

@@ -7,8 +7,8 @@ use Rattle.matching.proofs.matcher.bind.Goals as goal
 pub returns-in-Some : goal.returns-in-Some
 returns-in-Some c =
     let e = c.clipped.ensures in
-    bound_by c.args.target.now (bindings_list c.args.list.now) c.args.cell c.requires.kind c.args.at c.args.end c.in-Some.part c.same-words.result (sym c.find.ensures ∙ c.in-Some.is)
-    (λ t. sym e ∙ c.same-words.ensures.yes t) (λ h. c.same-words.ensures.no (e ∙ h))
+    bound_by c.args.target.now (bindings_list c.args.list.now) c.args.cell c.requires.kind c.args.at c.args.end c.in-Some.part c.same_words.result (sym c.find.ensures ∙ c.in-Some.is)
+    (λ t. sym e ∙ c.same_words.ensures.yes t) (λ h. c.same_words.ensures.no (e ∙ h))
 
 pub returns-in-None : goal.returns-in-None
 returns-in-None c =

@@ -10,20 +10,20 @@ use Rattle.matching.proofs.matcher.extend.Goals as goal
 pub loop-w-init : goal.loop-w-init
 loop-w-init c = (longer_none (bindings_list c.args.list.now) 0, omega arith, (λ l. l), (λ a. a), (λ σ r p. ((λ x. x), (λ x. x))))
 
-pub extend-by-requires : goal.extend-by-requires
-extend-by-requires c =
+pub extend_by-requires : goal.extend_by-requires
+extend_by-requires c =
     let l = longer_length (bindings_list c.args.list.now) (bindings_list c.loop-w.list) c.loop-w.w-index c.loop-w.invariant.0 in
     omega arith
 
-pub returns-in-default : goal.returns-in-default
-returns-in-default c =
+pub returns-in_default : goal.returns-in_default
+returns-in_default c =
     let ps = c.args.pattern.now in
     let t = c.args.target.now in
     let i = c.loop-w.w-index in
     let at = drop c.loop-w.end (row t) in
     let e = row_more ps i c.loop-w-test.true in
     let n : i + 1 ≤ length (row ps) = simp length-map (omega arith) in
-    let (m, h) = c.in-default.ensures in (
+    let (m, h) = c.in_default.ensures in (
       longer_more _ _ _ i 1 (length (row ps)) c.loop-w.invariant.0 m n,
       failed t (bindings_list c.args.list.now) (row ps) c.args.at
           (λ σ r p x. h σ (drop (i + 1) (row ps)) r p (subst (λ z. Open t (bindings_list c.loop-w.list) z r at σ) e ((c.loop-w.invariant.4 σ r p).0 x))),

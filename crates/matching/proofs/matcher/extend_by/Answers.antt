@@ -21,8 +21,8 @@ bind-requires c =
     let l = whole_after (row c.args.target.now) c.args.at c.in-Some.end e.1 in
     record { kind = c.if-w-lt-VARIABLE.false; order = omega arith; inside = e.0; room = c.requires.room }
 
-pub returns-in-default : goal.returns-in-default
-returns-in-default c = no_term c.args.target.now (bindings_list c.args.list.now) c.args.w c.args.at c.if-w-lt-VARIABLE.false c.in-default.ensures
+pub returns-in_default : goal.returns-in_default
+returns-in_default c = no_term c.args.target.now (bindings_list c.args.list.now) c.args.w c.args.at c.if-w-lt-VARIABLE.false c.in_default.ensures
 
 pub returns-then-not-bind : goal.returns-then-not-bind
 returns-then-not-bind c =

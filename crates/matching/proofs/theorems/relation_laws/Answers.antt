@@ -5,4 +5,4 @@ use Rattle.matching.proofs.Uniqueness.{one_binding_answer}
 use Rattle.matching.proofs.theorems.relation_laws.Goals as goal
 
 pub returns : goal.returns
-returns c = record { laws = relation_laws; marked = marked; pair-answer = one_pair_answer; binding-answer = one_binding_answer }
+returns c = record { laws = relation_laws; marked = marked; pair_answer = one_pair_answer; binding_answer = one_binding_answer }

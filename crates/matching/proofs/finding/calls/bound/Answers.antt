@@ -7,11 +7,11 @@ use Rattle.matching.proofs.Walking.{bound_at, not_none}
 use Rattle.matching.proofs.finding.calls.bound.Goals as goal
 
 pub place-at-requires : goal.place-at-requires
-place-at-requires c = record { inside = (stands_word c.args.pattern.now c.in-ok-k.k c.args.v c.in-ok-k.ensures.here).0; holds = c.requires }
+place-at-requires c = record { inside = (stands_word c.args.pattern.now c.in_ok-k.k c.args.v c.in_ok-k.ensures.here).0; holds = c.requires }
 
 pub unreachable-requires : goal.unreachable-requires
 unreachable-requires c =
-    not_none (row c.args.pattern.now) c.args.target.now c.in-ok-k.k c.args.v c.place-at.result c.in-ok-k.ensures c.place-at.ensures c.in-None.ensures c.requires
+    not_none (row c.args.pattern.now) c.args.target.now c.in_ok-k.k c.args.v c.place-at.result c.in_ok-k.ensures c.place-at.ensures c.in-None.ensures c.requires
 
 pub returns : goal.returns
 returns c =
@@ -19,4 +19,4 @@ returns c =
     let t = c.args.target.now in
     let at = c.place-at.result in
     subst (BoundAt s (row t) c.args.v at) (row_part t (c.in-Some.end - at) at)
-    (bound_at s t c.in-ok-k.k c.args.v at c.in-ok-k.ensures c.place-at.ensures c.in-Some.end c.in-Some.ensures c.requires)
+    (bound_at s t c.in_ok-k.k c.args.v at c.in_ok-k.ensures c.place-at.ensures c.in-Some.end c.in-Some.ensures c.requires)
