@@ -120,7 +120,7 @@ pub fn unify_rows(cells: &[u32], k: Kinds, b: &mut Bindings, i: u32, j: u32, n: 
     ensures longer { b.old.len ≤ b.new.len }
     ensures out { Out (over k.formula k.rule k.tree cells.now) (length cells.now) 512
         (take b.old.len b.old.items) (take b.new.len b.new.items)
-        (placesFrom cells.now i n) (placesFrom cells.now j n) result }
+        (places_from cells.now i n) (places_from cells.now j n) result }
 {
     if n == 0 {
         return true;
@@ -156,7 +156,7 @@ pub fn finite_rows(cells: &[u32], k: Kinds, b: &Bindings, marks: &mut [u8], i: u
     requires above { Open (over k.formula k.rule k.tree cells.now) (take b.now.len b.now.items) marks.old (places_from cells.now i n) }
     requires done { Done (over k.formula k.rule k.tree cells.now) (take b.now.len b.now.items) marks.old }
     ensures { Fin (over k.formula k.rule k.tree cells.now) (take b.now.len b.now.items)
-        marks.old marks.new (placesFrom cells.now i n) result }
+        marks.old marks.new (places_from cells.now i n) result }
 {
     if n == 0 {
         return true;
@@ -280,7 +280,7 @@ pub fn write_rows(
     ensures words { names.new.count ≤ length names.new.words }
     ensures later { at ≤ result }
     ensures wrote { Wrote (over k.formula k.rule k.tree cells.now) (take b.now.len b.now.items)
-        (placesFrom cells.now i n) at (take names.old.count names.old.words) out.old
+        (places_from cells.now i n) at (take names.old.count names.old.words) out.old
         (take names.new.count names.new.words) out.new result }
 {
     if n == 0 {

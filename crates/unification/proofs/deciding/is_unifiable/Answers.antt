@@ -8,8 +8,8 @@ meet-requires c =
     record {
       short = omega (arith, ap length c.cells.ensures.value, length-take x.count x.cells, x.fits);
       fits = omega (arith, ap length c.cells-2.ensures.value, length-take y.count y.cells, y.fits);
-      left-good = c.cells.ensures.good;
-      left-whole = c.cells.ensures.whole;
+      left_good = c.cells.ensures.good;
+      left_whole = c.cells.ensures.whole;
       good = c.cells-2.ensures.good;
       whole = c.cells-2.ensures.whole;
     }

@@ -16,7 +16,7 @@ related-requires c =
     record {
       small = omega (arith, n, c.requires.short, c.requires.fits);
       low = omega (arith, n, h);
-      left = subst (Wholes memory.need 1) (sym (memory_left l f mem e)) (left_wholes l c.requires.left-good c.requires.left-whole);
+      left = subst (Wholes memory.need 1) (sym (memory_left l f mem e)) (left_wholes l c.requires.left_good c.requires.left_whole);
       right = subst (Wholes memory.need 1) (sym (memory_right l f mem e)) (right_wholes f c.requires.good c.requires.whole);
       sheet = omega (arith, n, c.requires.short, c.requires.fits, c.unmarked-marks.ensures.long);
       blank = c.unmarked-marks.ensures.blank;
@@ -28,4 +28,4 @@ returns c =
     let f = c.args.formula.now in
     let cells = c.joined-cells.result in
     let e = memory_part l f cells c.joined-cells.ensures in
-    decided l f (take (length l + length f - 0) cells) e c.requires.left-good c.requires.good c.related.result c.related.ensures
+    decided l f (take (length l + length f - 0) cells) e c.requires.left_good c.requires.good c.related.result c.related.ensures

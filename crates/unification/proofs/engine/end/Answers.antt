@@ -13,15 +13,15 @@ loop-left-init c = (
 pub bounds-cells-at : goal.bounds-cells-at
 bounds-cells-at c = (has_step c.args.cells.now c.loop-left.at c.loop-left.left c.loop-left-test.true c.loop-left.invariant.1).low
 
-stepped : (c : goal.After-need-of) → Stepped c.args.cells.now c.loop-left.at c.loop-left.left
+stepped : (c : goal.After-need_of) → Stepped c.args.cells.now c.loop-left.at c.loop-left.left
 stepped c = has_step c.args.cells.now c.loop-left.at c.loop-left.left c.loop-left-test.true c.loop-left.invariant.1
 
-has_next : (c : goal.After-need-of) → Has (c.loop-left.left - 1 + c.need-of.result) (drop (c.loop-left.at + 1) c.args.cells.now)
-has_next c = subst (λ n. Has (c.loop-left.left - 1 + n) (drop (c.loop-left.at + 1) c.args.cells.now)) (sym c.need-of.ensures) (stepped c).has
+has_next : (c : goal.After-need_of) → Has (c.loop-left.left - 1 + c.need_of.result) (drop (c.loop-left.at + 1) c.args.cells.now)
+has_next c = subst (λ n. Has (c.loop-left.left - 1 + n) (drop (c.loop-left.at + 1) c.args.cells.now)) (sym c.need_of.ensures) (stepped c).has
 
-pub overflow-add-left : goal.overflow-add-left
-overflow-add-left c =
-    let h = has_le (drop (c.loop-left.at + 1) c.args.cells.now) (c.loop-left.left - 1 + c.need-of.result) (has_next c) in
+pub overflow_add-left : goal.overflow_add-left
+overflow_add-left c =
+    let h = has_le (drop (c.loop-left.at + 1) c.args.cells.now) (c.loop-left.left - 1 + c.need_of.result) (has_next c) in
     let d = length-drop (c.loop-left.at + 1) c.args.cells.now in
     let s = c.requires.0.short in
     omega arith
@@ -34,7 +34,7 @@ loop-left-preserved c =
     let l = (stepped c).low in (
       omega arith,
       has_next c,
-      ap (λ n. c.loop-left.at + 1 + size (c.loop-left.left - 1 + n) (drop (c.loop-left.at + 1) c.args.cells.now)) c.need-of.ensures
+      ap (λ n. c.loop-left.at + 1 + size (c.loop-left.left - 1 + n) (drop (c.loop-left.at + 1) c.args.cells.now)) c.need_of.ensures
           ∙ (stepped c).same ∙ c.loop-left.invariant.2,
     )
 

@@ -9,10 +9,10 @@ use Rattle.unification.proofs.OutFacts.{true_not}
 use Rattle.unification.proofs.DownFacts.{law, place_low, place_sym}
 use Rattle.unification.proofs.SolveFacts.{ends_at, sol_var, sol_down, solved_all}
 use Rattle.unification.proofs.engine.solvable.Goals as goal
-use Rattle.unification.proofs.engine.solvable.Goals.{then-bindable+then-not-bindable+else-not-finite-rows, then-bindable+else-not-bindable, else-bindable}
+use Rattle.unification.proofs.engine.solvable.Goals.{then-bindable+then-not-bindable+else-not-finite_rows, then-bindable+else-not-bindable, else-bindable}
 
-pub cell_c_requires : goal.cell-c-requires
-cell_c_requires c =
+pub cell-c-requires : goal.cell-c-requires
+cell-c-requires c =
     let mem = c.args.cells.now in
     let M = c.requires.memory in
     let items = c.args.b.now.items in
@@ -25,8 +25,8 @@ cell_c_requires c =
     let px : Place G (length mem) x = subst (λ l. Place G (length mem) l.0) (get_or-take c.args.b.now.len items i (0, 0) c.loop-i-test.true) (ends_at G (length mem) L i c.requires.fit.ends il) in
     place_low mem M c.args.k.formula c.args.k.rule c.args.k.tree c.root-y.result (subst (Place G (length mem)) (sym c.root-y.ensures) (find_place G (length mem) L x c.requires.fit.ends px))
 
-pub finite_rows_requires : goal.finite-rows-requires
-finite_rows_requires c =
+pub finite_rows-requires : goal.finite_rows-requires
+finite_rows-requires c =
     let mem = c.args.cells.now in
     let M = c.requires.memory in
     let items = c.args.b.now.items in
@@ -62,11 +62,11 @@ loop-i-preserved c =
     let il : i < length L = omega (arith, length-take-le c.args.b.now.len items (omega arith)) in
     let px : Place G (length mem) x = subst (λ l. Place G (length mem) l.0) (get_or-take c.args.b.now.len items i (0, 0) c.loop-i-test.true) (ends_at G (length mem) L i c.requires.fit.ends il) in
     elim c.if-bindable.branch [
-      | then-bindable+then-not-bindable+else-not-finite-rows w ↦
+      | then-bindable+then-not-bindable+else-not-finite_rows w ↦
           (let y = w.root-y.result in
           let sy : binds c.args.k.formula c.args.k.rule c.args.k.tree (cell_at mem y) ≡ false = ap (binds c.args.k.formula c.args.k.rule c.args.k.tree) (sym w.cell-c.ensures) ∙ sym w.if-not-bindable.ensures in
-          let F : Fin G L c.loop-i.marks w.finite-rows.new.marks (y ∷ []) true =
-          subst (Fin G L c.loop-i.marks w.finite-rows.new.marks (y ∷ [])) w.if-not-finite-rows.false w.finite-rows.ensures in (
+          let F : Fin G L c.loop-i.marks w.finite_rows.new.marks (y ∷ []) true =
+          subst (Fin G L c.loop-i.marks w.finite_rows.new.marks (y ∷ [])) w.if-not-finite_rows.false w.finite_rows.ensures in (
             (λ o h. c.loop-i.invariant.0 o (F.opened refl o (subst (λ m. get_or m o 0 ≡ 1) w.marks-is h))),
             (λ o h. F.done refl o (subst (λ m. 1 < get_or m o 0) w.marks-is h)),
             below_more (λ j. binds c.args.k.formula c.args.k.rule c.args.k.tree (get_or items j (0, 0)).0 ≡ true → (row : List ℕ) × Sol G L (get_or items j (0, 0)).0 row) i c.loop-i.invariant.2

@@ -6,8 +6,8 @@ use Rattle.unification.proofs.DownFacts.{law}
 use Rattle.unification.proofs.SolveFacts.{decide_clash, decide}
 use Rattle.unification.proofs.engine.unifiable.Goals as goal
 
-pub unify-rows-requires : goal.unify-rows-requires
-unify-rows-requires c =
+pub unify_rows-requires : goal.unify_rows-requires
+unify_rows-requires c =
     let mem = c.args.cells.now in
     let M = c.requires.memory in
     record {
@@ -20,26 +20,26 @@ unify-rows-requires c =
 
 pub solvable-requires : goal.solvable-requires
 solvable-requires c =
-    let O = c.unify-rows.ensures.out in
+    let O = c.unify_rows.ensures.out in
     record {
       memory = c.requires.memory;
-      room = omega (arith, O.fit.room, length-take-le c.unify-rows.new.b.len c.unify-rows.new.b.items c.unify-rows.ensures.room);
+      room = omega (arith, O.fit.room, length-take-le c.unify_rows.new.b.len c.unify_rows.new.b.items c.unify_rows.ensures.room);
       fit = O.fit;
       sheet = c.requires.sheet;
       blank = c.requires.blank;
     }
 
-pub returns-then-not-unify-rows : goal.returns-then-not-unify-rows
-returns-then-not-unify-rows c =
+pub returns-then-not-unify_rows : goal.returns-then-not-unify_rows
+returns-then-not-unify_rows c =
     let mem = c.args.cells.now in
     let G = over c.args.k.formula c.args.k.rule c.args.k.tree mem in
     let W = law mem c.requires.memory c.args.k.formula c.args.k.rule c.args.k.tree in
-    decide_clash G W (length mem) 512 c.args.p c.args.q (take c.unify-rows.new.b.len c.unify-rows.new.b.items) c.if-not-unify-rows.ensures.out
+    decide_clash G W (length mem) 512 c.args.p c.args.q (take c.unify_rows.new.b.len c.unify_rows.new.b.items) c.if-not-unify_rows.ensures.out
 
 pub returns : goal.returns
 returns c =
     let mem = c.args.cells.now in
     let G = over c.args.k.formula c.args.k.rule c.args.k.tree mem in
     let W = law mem c.requires.memory c.args.k.formula c.args.k.rule c.args.k.tree in
-    decide G W (length mem) 512 c.args.p c.args.q (take c.unify-rows.new.b.len c.unify-rows.new.b.items) c.if-not-unify-rows.ensures.out
+    decide G W (length mem) 512 c.args.p c.args.q (take c.unify_rows.new.b.len c.unify_rows.new.b.items) c.if-not-unify_rows.ensures.out
     c.solvable.result c.solvable.ensures.yes c.solvable.ensures.no

@@ -7,8 +7,8 @@ use Rattle.unification.proofs.SolveFacts.{decide_clash, decide_never}
 use Rattle.unification.proofs.FormFacts.{form_none, form_some}
 use Rattle.unification.proofs.engine.write_form.Goals as goal
 
-pub unify-rows-requires : goal.unify-rows-requires
-unify-rows-requires c =
+pub unify_rows-requires : goal.unify_rows-requires
+unify_rows-requires c =
     let mem = c.args.cells.now in
     let M = c.requires.memory in
     record {
@@ -19,21 +19,21 @@ unify-rows-requires c =
       fit = fit_none (over c.args.k.formula c.args.k.rule c.args.k.tree mem) (length mem) 512 c.requires.small;
     }
 
-pub returns-then-not-unify-rows : goal.returns-then-not-unify-rows
-returns-then-not-unify-rows c =
+pub returns-then-not-unify_rows : goal.returns-then-not-unify_rows
+returns-then-not-unify_rows c =
     let mem = c.args.cells.now in
     let G = over c.args.k.formula c.args.k.rule c.args.k.tree mem in
     let W = law mem c.requires.memory c.args.k.formula c.args.k.rule c.args.k.tree in
-    let L = take c.unify-rows.new.b.len c.unify-rows.new.b.items in
+    let L = take c.unify_rows.new.b.len c.unify_rows.new.b.items in
     form_none G W (length mem) 512 c.args.p c.args.q L c.args.out.now c.args.out.now []
-    ((decide_clash G W (length mem) 512 c.args.p c.args.q L c.if-not-unify-rows.ensures.out).no refl)
+    ((decide_clash G W (length mem) 512 c.args.p c.args.q L c.if-not-unify_rows.ensures.out).no refl)
 
 pub solvable-requires : goal.solvable-requires
 solvable-requires c =
-    let O = c.unify-rows.ensures.out in
+    let O = c.unify_rows.ensures.out in
     record {
       memory = c.requires.memory;
-      room = omega (arith, O.fit.room, length-take-le c.unify-rows.new.b.len c.unify-rows.new.b.items c.unify-rows.ensures.room);
+      room = omega (arith, O.fit.room, length-take-le c.unify_rows.new.b.len c.unify_rows.new.b.items c.unify_rows.ensures.room);
       fit = O.fit;
       sheet = c.requires.sheet;
       blank = c.requires.blank;
@@ -44,19 +44,19 @@ returns-then-not-solvable c =
     let mem = c.args.cells.now in
     let G = over c.args.k.formula c.args.k.rule c.args.k.tree mem in
     let W = law mem c.requires.memory c.args.k.formula c.args.k.rule c.args.k.tree in
-    let L = take c.unify-rows.new.b.len c.unify-rows.new.b.items in
+    let L = take c.unify_rows.new.b.len c.unify_rows.new.b.items in
     form_none G W (length mem) 512 c.args.p c.args.q L c.args.out.now c.args.out.now []
-    ((decide_never G W (length mem) 512 c.args.p c.args.q L c.if-not-unify-rows.ensures.out (c.solvable.ensures.no c.if-not-solvable.true)).no refl)
+    ((decide_never G W (length mem) 512 c.args.p c.args.q L c.if-not-unify_rows.ensures.out (c.solvable.ensures.no c.if-not-solvable.true)).no refl)
 
-pub write_rows_requires : goal.write-rows-requires
-write_rows_requires c =
+pub write_rows-requires : goal.write_rows-requires
+write_rows-requires c =
     let mem = c.args.cells.now in
     let M = c.requires.memory in
-    let O = c.unify-rows.ensures.out in
+    let O = c.unify_rows.ensures.out in
     record {
       memory = M;
       left = suffix_has mem M.rows c.args.p M.whole c.requires.left;
-      room = omega (arith, O.fit.room, length-take-le c.unify-rows.new.b.len c.unify-rows.new.b.items c.unify-rows.ensures.room);
+      room = omega (arith, O.fit.room, length-take-le c.unify_rows.new.b.len c.unify_rows.new.b.items c.unify_rows.ensures.room);
       fit = O.fit;
       place = omega arith;
       sheet = c.requires.buffer;
@@ -69,6 +69,6 @@ returns c =
     let mem = c.args.cells.now in
     let G = over c.args.k.formula c.args.k.rule c.args.k.tree mem in
     let W = law mem c.requires.memory c.args.k.formula c.args.k.rule c.args.k.tree in
-    let L = take c.unify-rows.new.b.len c.unify-rows.new.b.items in
-    form_some G W (length mem) 512 c.args.p c.args.q L c.args.out.now c.write-rows.new.out (take c.write-rows.new.names.count c.write-rows.new.names.words)
-    c.if-not-unify-rows.ensures.out (c.solvable.ensures.yes c.if-not-solvable.false) c.write-rows.result c.write-rows.ensures.wrote
+    let L = take c.unify_rows.new.b.len c.unify_rows.new.b.items in
+    form_some G W (length mem) 512 c.args.p c.args.q L c.args.out.now c.write_rows.new.out (take c.write_rows.new.names.count c.write_rows.new.names.words)
+    c.if-not-unify_rows.ensures.out (c.solvable.ensures.yes c.if-not-solvable.false) c.write_rows.result c.write_rows.ensures.wrote

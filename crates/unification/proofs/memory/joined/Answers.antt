@@ -12,11 +12,11 @@ pub loop-i-preserved : goal.loop-i-preserved
 loop-i-preserved c =
     let l = c.args.left.now in
     let i = c.loop-i.i in
-    let w = c.rule-word.result in
+    let w = c.rule_word.result in
     let b : i < length c.loop-i.cells = omega (arith, c.loop-i.invariant.0, c.requires.short, c.loop-i-test.true) in (
       length-set c.loop-i.cells i w ∙ c.loop-i.invariant.0,
       take_more_set c.loop-i.cells i w b
-          ∙ ap₂ (λ x y. x ++ y ∷ []) c.loop-i.invariant.1 c.rule-word.ensures
+          ∙ ap₂ (λ x y. x ++ y ∷ []) c.loop-i.invariant.1 c.rule_word.ensures
           ∙ sym (tagged_more 0x90000000 l i c.loop-i-test.true),
     )
 
