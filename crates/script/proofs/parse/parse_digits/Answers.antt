@@ -7,5 +7,5 @@ use Rattle.script.proofs.parse.parse_digits.Goals as goal
 pub returns : goal.returns
 returns c =
     let ds = c.args.digits.now in
-    let sign = starts_char 43 ds c.starts-with.result c.starts-with.ensures.cases (omega arith) (omega arith) in
-    subst (Reads c.args.radix ds) (sym c.ok.ensures.value) (plain c.args.radix ds c.from-str-radix.result c.starts-with.result sign c.if-starts-with.false c.from-str-radix.ensures.value)
+    let sign = starts_char 43 ds c.starts_with.result c.starts_with.ensures.cases (omega arith) (omega arith) in
+    subst (Reads c.args.radix ds) (sym c.ok.ensures.value) (plain c.args.radix ds c.from_str_radix.result c.starts_with.result sign c.if-starts_with.false c.from_str_radix.ensures.value)
