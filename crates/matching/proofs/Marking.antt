@@ -6,7 +6,7 @@ use Rattle.cells.specs.Variables.{Variant}
 use Rattle.cells.proofs.Terms.{row_laws}
 use Rattle.cells.proofs.Variants.{variable_laws}
 use Rattle.matching.specs.Relations.{General, Unifiable}
-use Rattle.matching.specs.Marked.{Marked, min_same, other_girths, f_same, f_inside, h_first, h_last, h_all}
+use Rattle.matching.specs.Marked.{Marked, MarkedBinding, min_same, other_girths, f_same, f_inside, h_first, h_last, h_all}
 
 abbrev girth : ℕ → List Cell
 girth n = symbol 1 2 ∷ symbol 0 n ∷ []
@@ -52,14 +52,6 @@ no_variants h =
 pub marked : Marked
 marked = record {
   first = (λ v. girth 46, record { whole = λ v. refl; makes = refl });
-  first_bound = record {
-    σ = λ v. girth 46;
-    turns = record { whole = λ v. refl; makes = refl };
-    k = 1;
-    first = record { here = refl; before = not_before };
-    position = refl;
-    part = refl;
-  };
   second = second;
   third = third;
   fourth = (λ v. symbol 1 4 ∷ variable 0 ∷ [], record { whole = λ v. refl; makes = refl });
@@ -71,4 +63,14 @@ marked = record {
   };
   no_variants = no_variants;
   one_variable = refl;
+}
+
+pub marked_binding : MarkedBinding
+marked_binding = record {
+  σ = λ v. girth 46;
+  turns = record { whole = λ v. refl; makes = refl };
+  k = 1;
+  first = record { here = refl; before = not_before };
+  position = refl;
+  part = refl;
 }

@@ -12,7 +12,8 @@ use Rattle.cells.proofs.Terms.{row_laws}
 use Rattle.substitution.specs.declared.bindings.Part.{Part}
 use Rattle.substitution.specs.declared.bindings.Binding.{Binding}
 use Rattle.substitution.specs.Bindings.{binding, lookup}
-use Rattle.matching.specs.Extending.{part, Agrees, AllWhole, Open, Longer, Matched, Unmatched, Bound, Stepped}
+use Rattle.matching.specs.Extending.{part, Agrees, AllWhole, Open, Bound, Stepped}
+use Rattle.matching.specs.Fronts.{OpenBefore, Longer, Matched, Unmatched, BoundBehind, SteppedBefore}
 
 -- A list with bindings added behind.
 
@@ -74,7 +75,7 @@ module _ (source : List ℕ) (b : List Binding) (w : ℕ) (big : 2147483648 ≤ 
   at_w : 2147483648 + (w - 2147483648) ≡ w
   at_w = omega arith
 
-  pub bound_new : (p : Part) → lookup b w ≡ None → part source p ≡ q → Bound source b (w - 2147483648) q true (b ++ binding w p ∷ [])
+  pub bound_new : (p : Part) → lookup b w ≡ None → part source p ≡ q → BoundBehind source b (w - 2147483648) q true (b ++ binding w p ∷ [])
   bound_new p none e = (
     longer_one b (binding w p),
     (λ h a u p' f. pushed b w p u p' (Whole (part source p')) none f (a u p') (λ s t. subst Whole (sym e ∙ ap (part source) (sym t)) h)),
@@ -88,14 +89,14 @@ module _ (source : List ℕ) (b : List Binding) (w : ℕ) (big : 2147483648 ≤ 
     )),
   )
 
-  pub bound_old : (p : Part) → lookup b w ≡ Some p → part source p ≡ q → Bound source b (w - 2147483648) q true b
+  pub bound_old : (p : Part) → lookup b w ≡ Some p → part source p ≡ q → BoundBehind source b (w - 2147483648) q true b
   bound_old p f e = (
     longer_none b 1,
     (λ h a. a),
     (λ σ. ((λ h. h.0), (λ h. (h, h (w - 2147483648) p (ap (lookup b) at_w ∙ f) ∙ e)))),
   )
 
-  pub bound_not : (p : Part) → lookup b w ≡ Some p → (part source p ≡ q → ⊥) → Bound source b (w - 2147483648) q false b
+  pub bound_not : (p : Part) → lookup b w ≡ Some p → (part source p ≡ q → ⊥) → BoundBehind source b (w - 2147483648) q false b
   bound_not p f n = (longer_none b 1, (λ σ a h. n (sym (a (w - 2147483648) p (ap (lookup b) at_w ∙ f)) ∙ h)))
 
 -- A part in words and in cells.
@@ -110,14 +111,14 @@ same_parts x y e = sym (words_row x) ∙ ap words e ∙ words_row y
 
 module _ (source : List ℕ) (b : List Binding) (w : ℕ) (big : 2147483648 ≤ w) (at e : ℕ) where
   pub bound_by : (p : Part) (r : Bool) → lookup b w ≡ Some p → (r ≡ true → take p.len (drop p.at source) ≡ between at e source) → (take p.len (drop p.at source) ≡ between at e source → r ≡ true)
-      → Bound source b (w - 2147483648) (between at e (row source)) r b
+      → BoundBehind source b (w - 2147483648) (between at e (row source)) r b
   bound_by p true f yes-same no_other = bound_old source b w big (between at e (row source)) p f (row_part source p.len p.at ∙ ap row (yes-same refl) ∙ sym (row_part source (e - at) at))
   bound_by p false f yes-same no_other =
       bound_not source b w big (between at e (row source)) p f
       (λ h. false≢true (no_other (same_parts _ _ (sym (row_part source p.len p.at) ∙ h ∙ row_part source (e - at) at))))
 
-  pub bound_push : (r : Bool) (b' : List Binding) → r ≡ true → b' ≡ cond r (b ++ binding w (record { at = at; len = e - at }) ∷ []) b → lookup b w ≡ None → Bound source b (w - 2147483648) (between at e (row source)) r b'
-  bound_push true b' t e' none = subst (λ x. Bound source b (w - 2147483648) (between at e (row source)) true x) (sym e') (bound_new source b w big (between at e (row source)) (record { at = at; len = e - at }) none refl)
+  pub bound_push : (r : Bool) (b' : List Binding) → r ≡ true → b' ≡ cond r (b ++ binding w (record { at = at; len = e - at }) ∷ []) b → lookup b w ≡ None → BoundBehind source b (w - 2147483648) (between at e (row source)) r b'
+  bound_push true b' t e' none = subst (λ x. BoundBehind source b (w - 2147483648) (between at e (row source)) true x) (sym e') (bound_new source b w big (between at e (row source)) (record { at = at; len = e - at }) none refl)
   bound_push false b' t e' none = absurd (false≢true t)
 
 pub row_more : (source : List ℕ) (at : ℕ) → at < length source → drop at (row source) ≡ cell (get_or source at 0) ∷ drop (at + 1) (row source)
@@ -126,17 +127,17 @@ row_more source at l = drop-map cell at source ∙ ap row (drop_more source at 0
 -- What is left of pattern and target, one cell on.
 
 module _ (source : List ℕ) (b : List Binding) (σ : ℕ → List Cell) (s r : List Cell) where
-  open_symbol : (k f : ℕ) (t t' : List Cell) → t ≡ symbol k f ∷ t' → Open source b (symbol k f ∷ s) r t σ ↔ Open source b s r t' σ
+  open_symbol : (k f : ℕ) (t t' : List Cell) → t ≡ symbol k f ∷ t' → OpenBefore source b (symbol k f ∷ s) r t σ ↔ OpenBefore source b s r t' σ
   open_symbol k f t t' e = ((λ h. let x = h.1 in (h.0, (cc))), (λ h. (h.0, ap (λ z. symbol k f ∷ z) h.1 ∙ sym e)))
 
-  open_variable : (v : ℕ) (q t t' : List Cell) → Substitution σ → Whole q → t ≡ q ++ t' → Open source b (variable v ∷ s) r t σ ↔ ((Agrees source b σ × (σ v ≡ q)) × (substitute σ s ++ r ≡ t'))
+  open_variable : (v : ℕ) (q t t' : List Cell) → Substitution σ → Whole q → t ≡ q ++ t' → OpenBefore source b (variable v ∷ s) r t σ ↔ ((Agrees source b σ × (σ v ≡ q)) × (substitute σ s ++ r ≡ t'))
   open_variable v q t t' p w e = (
     (λ h. let x = row_laws.front (σ v) q (substitute σ s ++ r) t' (p v) w (sym (append_assoc (σ v) (substitute σ s) r) ∙ h.1 ∙ e) in ((h.0, x.0), x.1)),
     (λ h. (h.0.0, append_assoc (σ v) (substitute σ s) r ∙ (λ j. h.0.1 j ++ h.1 j) ∙ sym e)),
   )
 
 module _ (source : List ℕ) (b : List Binding) (w at : ℕ) where
-  pub step_symbol : w < 2147483648 → at < length source → get_or source at 0 ≡ w → Stepped source b (cell w) at (Some (at + 1)) b
+  pub step_symbol : w < 2147483648 → at < length source → get_or source at 0 ≡ w → SteppedBefore source b (cell w) at (Some (at + 1)) b
   step_symbol small l e =
       let k = cell_symbol w small in
       let d : drop at (row source) ≡ cell w ∷ drop (at + 1) (row source) = row_more source at l ∙ ap (λ x. cell x ∷ drop (at + 1) (row source)) e in (
@@ -144,11 +145,11 @@ module _ (source : List ℕ) (b : List Binding) (w at : ℕ) where
         omega arith,
         omega arith,
         (λ a. a),
-        (λ σ s r p. subst (λ c. Open source b (c ∷ s) r (drop at (row source)) σ ↔ Open source b s r (drop (at + 1) (row source)) σ) (sym k)
+        (λ σ s r p. subst (λ c. OpenBefore source b (c ∷ s) r (drop at (row source)) σ ↔ OpenBefore source b s r (drop (at + 1) (row source)) σ) (sym k)
             (open_symbol source b σ s r (w / 65536) (w % 65536) (drop at (row source)) (drop (at + 1) (row source)) (d ∙ ap (λ c. c ∷ drop (at + 1) (row source)) k))),
       )
 
-  pub no_symbol : w < 2147483648 → (at < length source → get_or source at 0 ≡ w → ⊥) → Stepped source b (cell w) at None b
+  pub no_symbol : w < 2147483648 → (at < length source → get_or source at 0 ≡ w → ⊥) → SteppedBefore source b (cell w) at None b
   no_symbol small n = (
     longer_none b 1,
     (λ σ s r p h.
@@ -185,7 +186,7 @@ module _ (source : List ℕ) (at e : ℕ) (ends : Ends source at (Some e)) where
 
 module _ (source : List ℕ) (b : List Binding) (w at : ℕ) (big : 2147483648 ≤ w) where
   module _ (e : ℕ) (ends : Ends source at (Some e)) where
-    pub step_variable : (b' : List Binding) → Bound source b (w - 2147483648) (between at e (row source)) true b' → Stepped source b (cell w) at (Some e) b'
+    pub step_variable : (b' : List Binding) → BoundBehind source b (w - 2147483648) (between at e (row source)) true b' → SteppedBefore source b (cell w) at (Some e) b'
     step_variable b' h = (
       h.0,
       after source at e ends,
@@ -193,20 +194,20 @@ module _ (source : List ℕ) (b : List Binding) (w at : ℕ) (big : 2147483648 �
       h.1 ends.1,
       (λ σ s r p.
           let o = open_variable source b σ s r (w - 2147483648) (between at e (row source)) (drop at (row source)) (drop e (row source)) p ends.1 (rest source at e ends) in
-          subst (λ c. Open source b (c ∷ s) r (drop at (row source)) σ ↔ Open source b' s r (drop e (row source)) σ) (sym (cell_variable w big))
+          subst (λ c. OpenBefore source b (c ∷ s) r (drop at (row source)) σ ↔ OpenBefore source b' s r (drop e (row source)) σ) (sym (cell_variable w big))
           ((λ x. let y = o.0 x in ((h.2 σ).0 y.0, y.1)), (λ x. o.1 ((h.2 σ).1 x.0, x.1)))),
     )
 
-    pub no_bound : (b' : List Binding) → Bound source b (w - 2147483648) (between at e (row source)) false b' → Stepped source b (cell w) at None b'
+    pub no_bound : (b' : List Binding) → BoundBehind source b (w - 2147483648) (between at e (row source)) false b' → SteppedBefore source b (cell w) at None b'
     no_bound b' h = (
       h.0,
       (λ σ s r p x.
           let y = (open_variable source b σ s r (w - 2147483648) (between at e (row source)) (drop at (row source)) (drop e (row source)) p ends.1 (rest source at e ends)).0
-          (subst (λ c. Open source b (c ∷ s) r (drop at (row source)) σ) (cell_variable w big) x) in
+          (subst (λ c. OpenBefore source b (c ∷ s) r (drop at (row source)) σ) (cell_variable w big) x) in
           h.1 σ y.0.0 y.0.1),
     )
 
-  pub no_term : Ends source at None → Stepped source b (cell w) at None b
+  pub no_term : Ends source at None → SteppedBefore source b (cell w) at None b
   no_term none = (
     longer_none b 1,
     (λ σ s r p x.
@@ -220,7 +221,7 @@ module _ (source : List ℕ) (b : List Binding) (w at : ℕ) (big : 2147483648 �
 -- The end of the pattern.
 module _ (source : List ℕ) (b : List Binding) (s : List Cell) (at : ℕ) where
   pub finished : (e : ℕ) (b' : List Binding) → at ≤ e → (at ≤ length source → e ≤ length source) → (AllWhole source b → AllWhole source b')
-      → ((σ : ℕ → List Cell) (r : List Cell) → Substitution σ → Open source b s r (drop at (row source)) σ ↔ Open source b' [] r (drop e (row source)) σ)
+      → ((σ : ℕ → List Cell) (r : List Cell) → Substitution σ → OpenBefore source b s r (drop at (row source)) σ ↔ OpenBefore source b' [] r (drop e (row source)) σ)
       → Matched source b s at e b'
   finished e b' l i w h =
       let t = part_rest (row source) at e l in
@@ -241,5 +242,31 @@ module _ (source : List ℕ) (b : List Binding) (s : List Cell) (at : ℕ) where
             append_cancel_right (substitute σ s) part rest (ap (λ z. substitute σ s ++ z) (sym y.1) ∙ e₁ ∙ t);
       }
 
-  pub failed : ((σ : ℕ → List Cell) (r : List Cell) → Substitution σ → Open source b s r (drop at (row source)) σ → ⊥) → Unmatched source b s at
+  pub failed : ((σ : ℕ → List Cell) (r : List Cell) → Substitution σ → OpenBefore source b s r (drop at (row source)) σ → ⊥) → Unmatched source b s at
   failed h σ p a k x = h σ (drop k (drop at (row source))) p (a, ap (λ z. z ++ drop k (drop at (row source))) x ∙ take-append-drop k (drop at (row source)))
+
+-- Where nothing is left of the row.
+
+module _ (source : List ℕ) (b : List Binding) (s t : List Cell) (σ : ℕ → List Cell) where
+  open_end : Open source b s t σ → OpenBefore source b s [] t σ
+  open_end h = (h.0, append-nil (substitute σ s) ∙ h.1)
+
+  end_open : OpenBefore source b s [] t σ → Open source b s t σ
+  end_open h = (h.0, sym (append-nil (substitute σ s)) ∙ h.1)
+
+pub stepped : (source : List ℕ) (b b' : List Binding) (c : Cell) (at : ℕ) (o : Option ℕ) → SteppedBefore source b c at o b' → Stepped source b c at o b'
+stepped source b b' c at (Some next) h = (
+  h.2,
+  longer_length b b' 1 h.0,
+  h.3,
+  (λ σ s p.
+      let x = h.4 σ s [] p in
+      let now = drop at (row source) in
+      let then = drop next (row source) in
+      ((λ y. end_open source b' s then σ (x.0 (open_end source b (c ∷ s) now σ y))), (λ y. end_open source b (c ∷ s) now σ (x.1 (open_end source b' s then σ y))))),
+)
+stepped source b b' c at None h = λ σ s p y. h.1 σ s [] p (open_end source b (c ∷ s) (drop at (row source)) σ y)
+
+pub bound : (source : List ℕ) (b b' : List Binding) (v : ℕ) (q : List Cell) (r : Bool) → BoundBehind source b v q r b' → Bound source b v q r b'
+bound source b b' v q true h = (longer_length b b' 1 h.0, h.1, h.2)
+bound source b b' v q false h = h.1

@@ -10,8 +10,9 @@ use Rattle.matching.specs.declared.finding.Asked.{Asked}
 use Rattle.matching.specs.declared.finding.Asked.TheVariants as asked
 use Rattle.matching.specs.declared.finding.Found.{Found}
 use Rattle.matching.specs.declared.fault.MatchFault.{MatchFault}
+use Rattle.matching.specs.declared.fault.MatchFault.TheVariants.{Left, Formula}
 use Rattle.matching.specs.Pairs.{GoodPair, PairFault}
-use Rattle.matching.specs.Bound.{First, BoundAt, BindsIf, AskedBinding, seen, OneBindingAnswer}
+use Rattle.matching.specs.Bound.{BindingAnswer, First, BoundAt, BindsIf, AskedBinding, seen, OneBindingAnswer}
 use Rattle.matching.proofs.Stepping.{same_parts}
 use Rattle.matching.proofs.Pairing.{one_pair_answer}
 
@@ -65,8 +66,12 @@ module _ (l f : List ℕ) where
       let z : ◌≡◌ {A = ℕ} 0 1 = cc in
       omega arith
 
+fault : (q : Asked) (l f : List ℕ) (e : MatchFault) → BindingAnswer q l f (Err e) → PairFault l f e
+fault q l f (Left e) h = h
+fault q l f (Formula e) h = h
+
 pub one_binding_answer : OneBindingAnswer
-one_binding_answer q l f (Ok x) (Ok y) a b = one_asked q l f x y a.1 b.1
-one_binding_answer q l f (Ok x) (Err e) a b = absurd (passes l f e a.0 b)
-one_binding_answer q l f (Err e) (Ok y) a b = absurd (passes l f e b.0 a)
-one_binding_answer q l f (Err e) (Err g) a b = let h = one_pair_answer l f (Err e) (Err g) a b in ap (λ z. Err z) (cc)
+one_binding_answer q l f (Ok x) (Ok y) a b = one_asked q l f x y a.2 b.2
+one_binding_answer q l f (Ok x) (Err e) a b = absurd (passes l f e (record { left = a.0; formula = a.1 }) (fault q l f e b))
+one_binding_answer q l f (Err e) (Ok y) a b = absurd (passes l f e (record { left = b.0; formula = b.1 }) (fault q l f e a))
+one_binding_answer q l f (Err e) (Err g) a b = let h = one_pair_answer l f (Err e) (Err g) (fault q l f e a) (fault q l f g b) in ap (λ z. Err z) (cc)

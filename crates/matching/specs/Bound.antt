@@ -4,12 +4,14 @@ use Rattle.cells.specs.Cells.{Cell, row}
 use Rattle.cells.specs.Rows.{Stands, Occurs}
 use Rattle.cells.specs.Substitutions.{substitute}
 use Rattle.cells.specs.Variables.{Variant}
+use Rattle.cells.specs.Checks.{CheckedRow, RowFault}
+use Rattle.cells.specs.Rules.{GoodLeft, LeftFault}
 use Rattle.matching.specs.declared.finding.Asked.{Asked}
 use Rattle.matching.specs.declared.finding.Asked.TheVariants as asked
 use Rattle.matching.specs.declared.finding.Found.{Found}
 use Rattle.matching.specs.declared.fault.MatchFault.{MatchFault}
+use Rattle.matching.specs.declared.fault.MatchFault.TheVariants.{Left, Formula}
 use Rattle.matching.specs.Relations.{Turns, General}
-use Rattle.matching.specs.Pairs.{GoodPair, PairFault}
 
 -- v stands at k, and nowhere before
 pub record First (s : List Cell) (v k : ℕ) : Type 0 where
@@ -42,10 +44,11 @@ AskedBinding (asked.Variant v) l f r = BindsIf (Variant (row l) (row f)) (row l)
 AskedBinding (asked.Instance v) l f r = BindsIf (General (row f) (row l)) (row f) l v.0 r
 AskedBinding asked.Unifiable l f r = r ≡ None
 
--- of rows that pass, or why they do not
+-- the left side is checked first, then the formula
 abbrev pub BindingAnswer : Asked → List ℕ → List ℕ → Result (Option Found) MatchFault → Type 0
-BindingAnswer a l f (Ok r) = GoodPair l f × AskedBinding a l f r
-BindingAnswer a l f (Err e) = PairFault l f e
+BindingAnswer a l f (Ok r) = GoodLeft l × CheckedRow 256 f × AskedBinding a l f r
+BindingAnswer a l f (Err (Left e)) = LeftFault l e
+BindingAnswer a l f (Err (Formula e)) = GoodLeft l × RowFault 256 f e
 
 -- what is seen of an answer: the position and the words of the part
 abbrev pub seen : Result (Option Found) MatchFault → Result (Option (ℕ × List ℕ)) MatchFault

@@ -9,9 +9,6 @@ use Rattle.matching.specs.Bound.{BoundAt}
 abbrev pub min_same : List Cell
 min_same = symbol 2 1 ∷ variable 0 ∷ variable 0 ∷ []
 
-abbrev pub girth_46 : List Cell
-girth_46 = symbol 1 2 ∷ symbol 0 46 ∷ []
-
 abbrev pub equal_girths : List Cell
 equal_girths = symbol 2 1 ∷ symbol 1 2 ∷ symbol 0 46 ∷ symbol 1 2 ∷ symbol 0 46 ∷ []
 
@@ -44,11 +41,16 @@ h_all = symbol 3 6 ∷ variable 0 ∷ variable 0 ∷ variable 0 ∷ []
 
 pub record Marked : Type 0 where
   pub first : General min_same equal_girths
-  -- X is the part at position 1
-  pub first_bound : BoundAt min_same equal_girths 0 1 girth_46
   pub second : General min_same other_girths → ⊥
   pub third : Unifiable f_same f_inside → ⊥
   pub fourth : General f_one f_of_g
   pub fifth : Common h_first h_last h_all
   pub no_variants : Variant h_first h_last → ⊥
   pub one_variable : length (variables h_all) ≡ 1
+
+abbrev pub girth_46 : List Cell
+girth_46 = symbol 1 2 ∷ symbol 0 46 ∷ []
+
+-- the first marked formula binds its X to the part at position 1
+abbrev pub MarkedBinding : Type 0
+MarkedBinding = BoundAt min_same equal_girths 0 1 girth_46

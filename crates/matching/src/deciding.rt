@@ -15,10 +15,7 @@ fn turns(pattern: &[u32], target: &[u32]) -> bool
     ensures { Decides result (General (row pattern.now) (row target.now)) }
 {
     let mut list = Bindings::none();
-    match extend(pattern, target, 0, &mut list) {
-        Some(end) => end == target.len(),
-        None => false,
-    }
+    extend(pattern, target, 0, &mut list)
 }
 
 // Whether the left side is general for the formula.

@@ -1,2 +1,2 @@
 // For sister crates: what asks something of its caller.
-pub use crate::matcher::{extend, fits_at};
+pub use crate::matcher::{fits_at, match_front};

@@ -1,9 +1,10 @@
 // One-sided matching: what has to be put for the variables of a pattern so that it becomes a given row.
-ghost use Rattle.std.specs.Prelude.{◌≡◌, ◌+◌, ◌-◌, ◌<◌, ◌≤◌, true, length};
+ghost use Rattle.std.specs.Prelude.{◌≡◌, ◌+◌, ◌-◌, ◌<◌, ◌≤◌, true, length, drop};
 ghost use Rattle.std.specs.List.{between};
 ghost use Rattle.cells.specs.Cells.{cell, row};
 ghost use Rattle.substitution.specs.Bindings.{bindings_list};
-ghost use Rattle.matching.specs.Extending.{Bound, Stepped, Extended, Fits};
+ghost use Rattle.matching.specs.Extending.{Bound, Stepped, Extended};
+ghost use Rattle.matching.specs.Fronts.{BoundBehind, SteppedBefore, FrontMatched, Fits};
 
 use cells::{VARIABLE, term_end};
 use substitution::{Bindings, Part, Trial, clipped};
@@ -22,7 +23,8 @@ fn bind(cell: u32, target: &[u32], at: usize, end: usize, list: &mut Bindings) -
     requires order { at ≤ end }
     requires inside { end ≤ length target.now }
     requires room { length (bindings_list list.old) < 256 }
-    ensures { Bound target.now (bindings_list list.old) (cell - 2147483648) (between at end (row target.now)) result (bindings_list list.new) }
+    ensures bound { Bound target.now (bindings_list list.old) (cell - 2147483648) (between at end (row target.now)) result (bindings_list list.new) }
+    ensures behind { BoundBehind target.now (bindings_list list.old) (cell - 2147483648) (between at end (row target.now)) result (bindings_list list.new) }
 {
     match list.find(cell) {
         Some(part) => same_words(clipped(target, part), &target[at..end]),
@@ -33,7 +35,8 @@ fn bind(cell: u32, target: &[u32], at: usize, end: usize, list: &mut Bindings) -
 // Extends the bindings by one cell of the pattern, at a position of the target, and says where the next one stands.
 fn extend_by(w: u32, target: &[u32], at: usize, list: &mut Bindings) -> Option<usize>
     requires room { length (bindings_list list.old) < 256 }
-    ensures { Stepped target.now (bindings_list list.old) (cell w) at result (bindings_list list.new) }
+    ensures stepped { Stepped target.now (bindings_list list.old) (cell w) at result (bindings_list list.new) }
+    ensures before { SteppedBefore target.now (bindings_list list.old) (cell w) at result (bindings_list list.new) }
 {
     if w < VARIABLE {
         if at < target.len() && target[at] == w {
@@ -50,11 +53,11 @@ fn extend_by(w: u32, target: &[u32], at: usize, list: &mut Bindings) -> Option<u
     Some(end)
 }
 
-// Extends the bindings so that the pattern becomes the part of the target that begins at `at`, and says where that ends.
+// Extends the bindings so that the pattern becomes a part of the target that begins at `at`, and says where that ends.
 // If it can become none, the list may have got new bindings too: a trial takes them back.
-pub fn extend(pattern: &[u32], target: &[u32], at: usize, list: &mut Bindings) -> Option<usize>
+pub fn match_front(pattern: &[u32], target: &[u32], at: usize, list: &mut Bindings) -> Option<usize>
     requires room { length (bindings_list list.old) + length pattern.now ≤ 256 }
-    ensures { Extended target.now (bindings_list list.old) (row pattern.now) at result (bindings_list list.new) }
+    ensures { FrontMatched target.now (bindings_list list.old) (row pattern.now) at result (bindings_list list.new) }
 {
     let mut end = at;
     for w in pattern {
@@ -66,6 +69,18 @@ pub fn extend(pattern: &[u32], target: &[u32], at: usize, list: &mut Bindings) -
     Some(end)
 }
 
+// Extends the bindings so that the pattern becomes the target from `start` on.
+pub fn extend(pattern: &[u32], target: &[u32], start: usize, list: &mut Bindings) -> bool
+    requires inside { start ≤ length target.now }
+    requires room { length (bindings_list list.old) + length pattern.now ≤ 256 }
+    ensures { Extended target.now (bindings_list list.old) (row pattern.now) (drop start (row target.now)) result (bindings_list list.new) }
+{
+    match match_front(pattern, target, start, list) {
+        Some(end) => end == target.len(),
+        None => false,
+    }
+}
+
 // Where the part of the target ends that the pattern can become at a place under the bindings at hand, which stay as they are.
 pub fn fits_at(pattern: &[u32], target: &[u32], at: usize, list: &mut Bindings) -> Option<usize>
     requires room { length (bindings_list list.old) + length pattern.now ≤ 256 }
@@ -74,5 +89,5 @@ pub fn fits_at(pattern: &[u32], target: &[u32], at: usize, list: &mut Bindings) 
 {
     let old = list.len();
     let trial = Trial { list, old };
-    extend(pattern, target, at, trial.list)
+    match_front(pattern, target, at, trial.list)
 }

@@ -10,9 +10,9 @@ returns c =
     let t = c.args.target.now in
     let s = row c.args.pattern.now in
     let b = bindings_list c.args.list.now in
-    let b' = bindings_list c.extend.new.list in
-    let r = c.extend.result in
+    let b' = bindings_list c.match_front.new.list in
+    let r = c.match_front.result in
     record {
-      answer = fits_by t b b' s c.args.at r c.extend.ensures;
-      list = c.drop-trial.ensures ∙ ap (λ n. take n b') c.len-old.ensures ∙ cut_back b b' (length s) (longer_by t b b' s c.args.at r c.extend.ensures);
+      answer = fits_by t b b' s c.args.at r c.match_front.ensures;
+      list = c.drop-trial.ensures ∙ ap (λ n. take n b') c.len-old.ensures ∙ cut_back b b' (length s) (longer_by t b b' s c.args.at r c.match_front.ensures);
     }

@@ -1,0 +1,53 @@
+-- Matching a pattern against a front of what stands at a position of a row. Assumes nothing.
+use Rattle.std.specs.Prelude.{◌≡◌, ℕ, ◌≤◌, Bool, true, false, ◌↔◌, List, ◌∷◌, ◌++◌, length, take, drop, Some, None, Option, ◌≢◌}
+use Rattle.std.specs.List.{between}
+use Rattle.cells.specs.Cells.{Cell, row}
+use Rattle.cells.specs.Rows.{Whole}
+use Rattle.cells.specs.Substitutions.{Substitution, substitute}
+use Rattle.substitution.specs.declared.bindings.Binding.{Binding}
+use Rattle.matching.specs.Extending.{Agrees, AllWhole}
+
+-- σ agrees with the bindings, and s turned by it, with r behind it, is t
+abbrev pub OpenBefore : List ℕ → List Binding → List Cell → List Cell → List Cell → (ℕ → List Cell) → Type 0
+OpenBefore source b s r t σ = Agrees source b σ × (substitute σ s ++ r ≡ t)
+
+-- the list b' is b with at most n bindings added behind: cut back to the length of b it is b again
+pub record Longer (b : List Binding) (n : ℕ) (b' : List Binding) : Type 0 where
+  pub more : List Binding
+  pub few : length more ≤ n
+  pub is : b' ≡ b ++ more
+
+-- the pattern s, matched at a position, takes the cells up to `end`, and b' are the bindings then
+pub record Matched (source : List ℕ) (b : List Binding) (s : List Cell) (at end : ℕ) (b' : List Binding) : Type 0 where
+  pub order : at ≤ end
+  pub inside : at ≤ length source → end ≤ length source
+  pub whole : AllWhole source b → AllWhole source b'
+  -- exactly those substitutions agree with the new bindings that agreed with the old ones and turn s into these cells
+  pub exact : (σ : ℕ → List Cell) → Substitution σ → (Agrees source b σ × (substitute σ s ≡ between at end (row source))) ↔ Agrees source b' σ
+  -- and none of them turns s into another front of what stands there
+  pub only : (σ : ℕ → List Cell) → Substitution σ → Agrees source b σ → (k : ℕ) → substitute σ s ≡ take k (drop at (row source)) → substitute σ s ≡ between at end (row source)
+
+-- no substitution that agrees with the bindings turns s into a front of what stands at the position
+abbrev pub Unmatched : List ℕ → List Binding → List Cell → ℕ → Type 0
+Unmatched source b s at = (σ : ℕ → List Cell) → Substitution σ → Agrees source b σ → (k : ℕ) → substitute σ s ≢ take k (drop at (row source))
+
+-- of every substitution at once
+abbrev pub FrontMatched : List ℕ → List Binding → List Cell → ℕ → Option ℕ → List Binding → Type 0
+FrontMatched source b s at (Some end) b' = Longer b (length s) b' × Matched source b s at end b'
+FrontMatched source b s at None b' = Longer b (length s) b' × Unmatched source b s at
+
+-- where the cells end that s can become at a position while the bindings stay as they are
+abbrev pub Fits : List ℕ → List Binding → List Cell → ℕ → Option ℕ → Type 0
+Fits source b s at (Some end) = AllWhole source b → (σ : ℕ → List Cell) × Substitution σ × Agrees source b σ × (substitute σ s ≡ between at end (row source))
+Fits source b s at None = Unmatched source b s at
+
+-- the variable v is bound to q, and at most one binding is added behind
+abbrev pub BoundBehind : List ℕ → List Binding → ℕ → List Cell → Bool → List Binding → Type 0
+BoundBehind source b v q true b' = Longer b 1 b' × (Whole q → AllWhole source b → AllWhole source b') × ((σ : ℕ → List Cell) → (Agrees source b σ × (σ v ≡ q)) ↔ Agrees source b' σ)
+BoundBehind source b v q false b' = Longer b 1 b' × ((σ : ℕ → List Cell) → Agrees source b σ → σ v ≢ q)
+
+-- the cell c of a pattern is matched at a position, whatever follows it in the pattern and whatever cells r are left of the row
+abbrev pub SteppedBefore : List ℕ → List Binding → Cell → ℕ → Option ℕ → List Binding → Type 0
+SteppedBefore source b c at (Some next) b' = Longer b 1 b' × (at ≤ next) × (next ≤ length source) × (AllWhole source b → AllWhole source b')
+    × ((σ : ℕ → List Cell) (s r : List Cell) → Substitution σ → OpenBefore source b (c ∷ s) r (drop at (row source)) σ ↔ OpenBefore source b' s r (drop next (row source)) σ)
+SteppedBefore source b c at None b' = Longer b 1 b' × ((σ : ℕ → List Cell) (s r : List Cell) → Substitution σ → OpenBefore source b (c ∷ s) r (drop at (row source)) σ → ⊥)
