@@ -100,9 +100,9 @@ asked_for named.Unifiable v = asked.Unifiable
 
 -- the part, or none, or why the rows are refused
 abbrev pub BindAnswer : BindCall → Answer → Type 0
-BindAnswer b (Part x) = (y : Found) × (x.at ≡ y.at) × (vec_items x.cells ≡ y.cells.now) × BindingAnswer (asked_for b.relation b.variable) (typed_left b.rows) (typed_formula b.rows) (Ok (Some y))
-BindAnswer b Nothing = BindingAnswer (asked_for b.relation b.variable) (typed_left b.rows) (typed_formula b.rows) (Ok None)
-BindAnswer b (PairRefused why) = BindingAnswer (asked_for b.relation b.variable) (typed_left b.rows) (typed_formula b.rows) (Err why)
+BindAnswer b (Part x) = (y : Found) × (x.at ≡ y.at) × (vec_items x.cells ≡ y.cells.now) × BindingAnswer (asked_for b.relation b.variable) (vec_items b.rows.left) (vec_items b.rows.right) (Ok (Some y))
+BindAnswer b Nothing = BindingAnswer (asked_for b.relation b.variable) (vec_items b.rows.left) (vec_items b.rows.right) (Ok None)
+BindAnswer b (PairRefused why) = BindingAnswer (asked_for b.relation b.variable) (vec_items b.rows.left) (vec_items b.rows.right) (Err why)
 BindAnswer b (Formula size) = ⊥
 BindAnswer b (Rule x) = ⊥
 BindAnswer b (Refused why) = ⊥

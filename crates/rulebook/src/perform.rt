@@ -9,7 +9,7 @@ use cells::{Formula, FormulaVar, Rule, RuleVar};
 use matching::{Asked, CheckedPair, binding, check_pair, is_general, is_instance, is_variant};
 use script::{BindCall, Call, Pair, Relation};
 use std::alloc::{AllocError, Global};
-use unification::{FormFault, common_form, is_unifiable};
+use unification::{FormFault, is_unifiable, write_common_form};
 
 fn check_formula(cells: &[u32]) -> Answer
     ensures { FormulaAnswer cells.now result }
@@ -87,7 +87,7 @@ fn common(heap: Global, rows: &Pair) -> Result<Answer, AllocError>
     ensures { IfOk result (λ a. CommonAnswer rows.now a) }
 {
     let mut form = [0; 256];
-    match common_form(rows.left.as_slice(), rows.right.as_slice(), &mut form) {
+    match write_common_form(rows.left.as_slice(), rows.right.as_slice(), &mut form) {
         Ok(found) => match found {
             Some(n) => Ok(Answer::Form(Vec::from_slice(heap, &form[0..n])?)),
             None => Ok(Answer::Nothing),

@@ -9,8 +9,8 @@ use Rattle.matching.proofs.Relating.{relation_laws}
 use Rattle.matching.proofs.Pairing.{one_pair_answer}
 use Rattle.unification.specs.declared.fault.FormFault.{FormFault}
 use Rattle.unification.specs.declared.fault.FormFault.TheVariants.{ShortBuffer, Rows, TooLarge}
-use Rattle.unification.specs.Forms.{Fitting, Passing, FormAnswer}
-use Rattle.unification.specs.Laws.{OneFormAnswer}
+use Rattle.unification.specs.Forms.{Fitting, Passing}
+use Rattle.unification.specs.FormsOfRows.{OneRowsFormAnswer}
 
 -- rows with a common form are unifiable
 common_unifies : (s t c : List Cell) → Common s t c → Unifiable s t
@@ -45,33 +45,33 @@ module _ (l f : List ℕ) where
         let k : n ≡ m = a.long ∙ ap length e ∙ sym b.long in
         (k, x ∙ ap (λ z. words z ++ drop n old) e ∙ ap (λ z. words d ++ drop z old) k ∙ sym y)
 
-pub one_form_answer : OneFormAnswer
-one_form_answer l f old new new' (Ok None) (Ok None) a b = (refl, a.1.0 ∙ sym b.1.0)
-one_form_answer l f old new new' (Ok None) (Ok (Some m)) a b = let w = b.1 in absurd (a.1.1 (common_unifies (row l) (row f) w.0 w.1.common))
-one_form_answer l f old new new' (Ok None) (Err (ShortBuffer n)) a b = absurd (room_or_short old n a.0.room b.0 b.1)
-one_form_answer l f old new new' (Ok None) (Err (Rows e)) a b = absurd (rows_pass l f e a.0.rows b.1)
-one_form_answer l f old new new' (Ok None) (Err TooLarge) a b = let w = b.1.1 in absurd (a.1.1 (common_unifies (row l) (row f) w.0 w.1.common))
-one_form_answer l f old new new' (Ok (Some n)) (Ok None) a b = let w = a.1 in absurd (b.1.1 (common_unifies (row l) (row f) w.0 w.1.common))
-one_form_answer l f old new new' (Ok (Some n)) (Ok (Some m)) a b =
+pub one_rows_form_answer : OneRowsFormAnswer
+one_rows_form_answer l f old new new' (Ok None) (Ok None) a b = (refl, a.1.0 ∙ sym b.1.0)
+one_rows_form_answer l f old new new' (Ok None) (Ok (Some m)) a b = let w = b.1 in absurd (a.1.1 (common_unifies (row l) (row f) w.0 w.1.common))
+one_rows_form_answer l f old new new' (Ok None) (Err (ShortBuffer n)) a b = absurd (room_or_short old n a.0.room b.0 b.1)
+one_rows_form_answer l f old new new' (Ok None) (Err (Rows e)) a b = absurd (rows_pass l f e a.0.rows b.1)
+one_rows_form_answer l f old new new' (Ok None) (Err TooLarge) a b = let w = b.1.1 in absurd (a.1.1 (common_unifies (row l) (row f) w.0 w.1.common))
+one_rows_form_answer l f old new new' (Ok (Some n)) (Ok None) a b = let w = a.1 in absurd (b.1.1 (common_unifies (row l) (row f) w.0 w.1.common))
+one_rows_form_answer l f old new new' (Ok (Some n)) (Ok (Some m)) a b =
     let v = a.1 in
     let w = b.1 in
     let e = one_written l f old new new' n m v.0 w.0 v.1 w.1 v.2 w.2 in
     (ap (λ x. Ok (Some x)) e.0, e.1)
-one_form_answer l f old new new' (Ok (Some n)) (Err (ShortBuffer m)) a b = absurd (room_or_short old m a.0.room b.0 b.1)
-one_form_answer l f old new new' (Ok (Some n)) (Err (Rows e)) a b = absurd (rows_pass l f e a.0.rows b.1)
-one_form_answer l f old new new' (Ok (Some n)) (Err TooLarge) a b = let v = a.1 in let w = b.1.1 in absurd (fits_or_passes (row l) (row f) v.0 w.0 n v.1 w.1)
-one_form_answer l f old new new' (Err (ShortBuffer n)) (Ok None) a b = absurd (room_or_short old n b.0.room a.0 a.1)
-one_form_answer l f old new new' (Err (ShortBuffer n)) (Ok (Some m)) a b = absurd (room_or_short old n b.0.room a.0 a.1)
-one_form_answer l f old new new' (Err (ShortBuffer n)) (Err (ShortBuffer m)) a b = (ap (λ x. Err (ShortBuffer x)) (a.0 ∙ sym b.0), a.2 ∙ sym b.2)
-one_form_answer l f old new new' (Err (ShortBuffer n)) (Err (Rows e)) a b = absurd (room_or_short old n b.0 a.0 a.1)
-one_form_answer l f old new new' (Err (ShortBuffer n)) (Err TooLarge) a b = absurd (room_or_short old n b.0.room a.0 a.1)
-one_form_answer l f old new new' (Err (Rows e)) (Ok None) a b = absurd (rows_pass l f e b.0.rows a.1)
-one_form_answer l f old new new' (Err (Rows e)) (Ok (Some m)) a b = absurd (rows_pass l f e b.0.rows a.1)
-one_form_answer l f old new new' (Err (Rows e)) (Err (ShortBuffer n)) a b = absurd (room_or_short old n a.0 b.0 b.1)
-one_form_answer l f old new new' (Err (Rows e)) (Err (Rows g)) a b = (ap (λ x. Err (Rows x)) (one_rows l f e g a.1 b.1), a.2 ∙ sym b.2)
-one_form_answer l f old new new' (Err (Rows e)) (Err TooLarge) a b = absurd (rows_pass l f e b.0.rows a.1)
-one_form_answer l f old new new' (Err TooLarge) (Ok None) a b = let w = a.1.1 in absurd (b.1.1 (common_unifies (row l) (row f) w.0 w.1.common))
-one_form_answer l f old new new' (Err TooLarge) (Ok (Some m)) a b = let v = a.1.1 in let w = b.1 in absurd (fits_or_passes (row l) (row f) w.0 v.0 m w.1 v.1)
-one_form_answer l f old new new' (Err TooLarge) (Err (ShortBuffer n)) a b = absurd (room_or_short old n a.0.room b.0 b.1)
-one_form_answer l f old new new' (Err TooLarge) (Err (Rows e)) a b = absurd (rows_pass l f e a.0.rows b.1)
-one_form_answer l f old new new' (Err TooLarge) (Err TooLarge) a b = (refl, a.1.0 ∙ sym b.1.0)
+one_rows_form_answer l f old new new' (Ok (Some n)) (Err (ShortBuffer m)) a b = absurd (room_or_short old m a.0.room b.0 b.1)
+one_rows_form_answer l f old new new' (Ok (Some n)) (Err (Rows e)) a b = absurd (rows_pass l f e a.0.rows b.1)
+one_rows_form_answer l f old new new' (Ok (Some n)) (Err TooLarge) a b = let v = a.1 in let w = b.1.1 in absurd (fits_or_passes (row l) (row f) v.0 w.0 n v.1 w.1)
+one_rows_form_answer l f old new new' (Err (ShortBuffer n)) (Ok None) a b = absurd (room_or_short old n b.0.room a.0 a.1)
+one_rows_form_answer l f old new new' (Err (ShortBuffer n)) (Ok (Some m)) a b = absurd (room_or_short old n b.0.room a.0 a.1)
+one_rows_form_answer l f old new new' (Err (ShortBuffer n)) (Err (ShortBuffer m)) a b = (ap (λ x. Err (ShortBuffer x)) (a.0 ∙ sym b.0), a.2 ∙ sym b.2)
+one_rows_form_answer l f old new new' (Err (ShortBuffer n)) (Err (Rows e)) a b = absurd (room_or_short old n b.0 a.0 a.1)
+one_rows_form_answer l f old new new' (Err (ShortBuffer n)) (Err TooLarge) a b = absurd (room_or_short old n b.0.room a.0 a.1)
+one_rows_form_answer l f old new new' (Err (Rows e)) (Ok None) a b = absurd (rows_pass l f e b.0.rows a.1)
+one_rows_form_answer l f old new new' (Err (Rows e)) (Ok (Some m)) a b = absurd (rows_pass l f e b.0.rows a.1)
+one_rows_form_answer l f old new new' (Err (Rows e)) (Err (ShortBuffer n)) a b = absurd (room_or_short old n a.0 b.0 b.1)
+one_rows_form_answer l f old new new' (Err (Rows e)) (Err (Rows g)) a b = (ap (λ x. Err (Rows x)) (one_rows l f e g a.1 b.1), a.2 ∙ sym b.2)
+one_rows_form_answer l f old new new' (Err (Rows e)) (Err TooLarge) a b = absurd (rows_pass l f e b.0.rows a.1)
+one_rows_form_answer l f old new new' (Err TooLarge) (Ok None) a b = let w = a.1.1 in absurd (b.1.1 (common_unifies (row l) (row f) w.0 w.1.common))
+one_rows_form_answer l f old new new' (Err TooLarge) (Ok (Some m)) a b = let v = a.1.1 in let w = b.1 in absurd (fits_or_passes (row l) (row f) w.0 v.0 m w.1 v.1)
+one_rows_form_answer l f old new new' (Err TooLarge) (Err (ShortBuffer n)) a b = absurd (room_or_short old n a.0.room b.0 b.1)
+one_rows_form_answer l f old new new' (Err TooLarge) (Err (Rows e)) a b = absurd (rows_pass l f e a.0.rows b.1)
+one_rows_form_answer l f old new new' (Err TooLarge) (Err TooLarge) a b = (refl, a.1.0 ∙ sym b.1.0)

@@ -8,3 +8,4 @@ pub mod Number
 pub mod Refusals
 pub mod Forms
 pub mod Laws
+pub mod FormsOfRows

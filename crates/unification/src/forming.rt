@@ -2,19 +2,23 @@
 ghost use Rattle.std.specs.Prelude.{◌≡◌, ◌<◌, ◌≤◌, ◌++◌, length, take, drop};
 ghost use Rattle.cells.specs.Cells.{AllCells, row};
 ghost use Rattle.cells.specs.Rows.{Whole};
+ghost use Rattle.cells.specs.Records.{row_words};
 ghost use Rattle.unification.specs.Forms.{Formed, FormWritten, FormAnswer};
+ghost use Rattle.unification.specs.FormsOfRows.{RowsFormAnswer};
 
 use crate::engine::{Kinds, write_form};
 use crate::fault::FormFault;
 use crate::memory::{joined, no_links, no_names, unmarked};
+use cells::{Formula, RuleSide};
 use matching::check_pair;
 
-// What becomes of the common form of rows that pass: there is none, it is written with this many cells, or it has more than 256 cells or 64 variables.
+// What becomes of the common form: there is none, it is written with this many cells, it has more than 256 cells or 64 variables, or the buffer, of this length, has room for fewer than 256 cells.
 #[derive(Clone, Copy)]
 pub enum CommonForm {
     None,
     Written(usize),
     TooLarge,
+    ShortBuffer(usize),
 }
 
 // The common form's length, with the form in the buffer; 0 if there is none, and more than 256 if it is too large.
@@ -91,13 +95,24 @@ fn blank_form() -> [u32; 256]
     [0; 256]
 }
 
-// Writes the common form of the left side and the formula to the front of the buffer and says how many cells that is, or that there is none.
-pub fn common_form(
+// Writes the common form of the left side and the formula to the front of the buffer, or nothing.
+pub fn common_form(left: &RuleSide, formula: &Formula, out: &mut [u32]) -> CommonForm
+    ensures { FormAnswer (row (row_words left.now)) (row (row_words formula.now)) out.old out.new result }
+{
+    let length = out.len();
+    if length < 256 {
+        return CommonForm::ShortBuffer(length);
+    }
+    write_common(left.cells(), formula.cells(), out)
+}
+
+// Writes the common form of rows as they come to the front of the buffer and says how many cells that is, or that there is none.
+pub fn write_common_form(
     left: &[u32],
     formula: &[u32],
     out: &mut [u32],
 ) -> Result<Option<usize>, FormFault>
-    ensures { FormAnswer left.now formula.now out.old out.new result }
+    ensures { RowsFormAnswer left.now formula.now out.old out.new result }
 {
     if out.len() < 256 {
         return Err(FormFault::ShortBuffer(out.len()));
@@ -107,5 +122,6 @@ pub fn common_form(
         CommonForm::None => Ok(None),
         CommonForm::Written(n) => Ok(Some(n)),
         CommonForm::TooLarge => Err(FormFault::TooLarge),
+        CommonForm::ShortBuffer(_) => unreachable!(),
     }
 }
