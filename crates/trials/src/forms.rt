@@ -5,7 +5,7 @@ use crate::unify::unify;
 use cells::{Formula, RuleSide};
 use matching::{Asked, binding};
 use std::alloc::{AllocError, Global};
-use unification::{FormFault, common_form, is_unifiable};
+use unification::{FormFault, is_unifiable, write_common_form};
 
 // The buffer has more room than a form can take, and this word in every cell.
 const ROOM: usize = 260;
@@ -54,7 +54,7 @@ pub fn compare_forms(heap: Global, pair: &Pair) -> Result<Finding, AllocError> {
     let form = unify(heap, left, formula)?;
     let holds = form.is_some();
     let mut out = [KEPT; ROOM];
-    let answer = common_form(left, formula, &mut out);
+    let answer = write_common_form(left, formula, &mut out);
     let agree = decide(left, formula) == Some(holds)
         && matches!(binding(Asked::Unifiable, left, formula), Ok(None))
         && same_form(answer, &form, &out);

@@ -11,11 +11,13 @@ mod tally;
 mod unify;
 mod word;
 
+use anyhow::bail;
 use compare::compare;
 use forms::compare_forms;
 use numbers::Numbers;
 use relation::{Relation, Tried};
-use rows::random_pair;
+use rows::{overlapping_pair, random_pair};
+use std::env;
 use tally::Tally;
 
 // All is tried on the same pairs.
@@ -30,10 +32,13 @@ fn try_pairs(rt: &HostRuntime, tried: Tried) -> anyhow::Result<Tally> {
     let mut numbers = Numbers::new(SEED);
     let mut tally = Tally::new();
     for _ in 0..PAIRS {
-        let pair = random_pair(rt.alloc(), &mut numbers)?;
+        let pair = match tried {
+            Tried::Overlapping => overlapping_pair(rt.alloc(), &mut numbers)?,
+            Tried::Matching(_) | Tried::Unification => random_pair(rt.alloc(), &mut numbers)?,
+        };
         let finding = match tried {
             Tried::Matching(relation) => compare(rt.alloc(), relation, &pair)?,
-            Tried::Unification => compare_forms(rt.alloc(), &pair)?,
+            Tried::Unification | Tried::Overlapping => compare_forms(rt.alloc(), &pair)?,
         };
         if !finding.agree && tally.differences < SHOWN {
             println!(rt; "{} differs:{pair}", tried.name())?;
@@ -43,20 +48,33 @@ fn try_pairs(rt: &HostRuntime, tried: Tried) -> anyhow::Result<Tally> {
     Ok(tally)
 }
 
-fn run(rt: &HostRuntime) -> anyhow::Result<()> {
+fn try_all(rt: &HostRuntime, all: &[Tried]) -> anyhow::Result<()> {
     let mut differences: u64 = 0;
-    for tried in [
-        Tried::Matching(Relation::General),
-        Tried::Matching(Relation::Instance),
-        Tried::Matching(Relation::Variant),
-        Tried::Unification,
-    ] {
-        let tally = try_pairs(rt, tried)?;
+    for tried in all {
+        let tally = try_pairs(rt, *tried)?;
         println!(rt; "{}: {tally}", tried.name())?;
         differences = differences.saturating_add(tally.differences);
     }
     println!(rt; "{differences} differences")?;
     Ok(())
+}
+
+// The relations that bind variables, or with the word `forms` unification.
+fn run(rt: &HostRuntime) -> anyhow::Result<()> {
+    let Some(word) = env::args(rt)?.nth(1) else {
+        return try_all(
+            rt,
+            &[
+                Tried::Matching(Relation::General),
+                Tried::Matching(Relation::Instance),
+                Tried::Matching(Relation::Variant),
+            ],
+        );
+    };
+    if word.as_str() != "forms" {
+        bail!("unknown trial `{word}`");
+    }
+    try_all(rt, &[Tried::Unification, Tried::Overlapping])
 }
 
 fn main(rt: HostRuntime) -> anyhow::Result<()> {

@@ -18,10 +18,12 @@ impl Relation {
     }
 }
 
+// A relation on pairs of all kinds, or unification on those or on pairs that often overlap.
 #[derive(Clone, Copy)]
 pub enum Tried {
     Matching(Relation),
     Unification,
+    Overlapping,
 }
 
 impl Tried {
@@ -29,6 +31,7 @@ impl Tried {
         match self {
             Tried::Matching(relation) => relation.name(),
             Tried::Unification => "unifiable",
+            Tried::Overlapping => "overlapping",
         }
     }
 }

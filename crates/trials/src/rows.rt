@@ -164,7 +164,7 @@ fn spoil(numbers: &mut Numbers, row: &mut Vec<u32>) {
 // A pair by chance, or one made so that a relation holds. The formula of either may then be spoiled.
 pub fn random_pair(heap: Global, numbers: &mut Numbers) -> Result<Pair, AllocError> {
     let side = random_side(heap, numbers)?;
-    let (left, mut formula) = match numbers.below(5) {
+    let (left, mut formula) = match numbers.below(4) {
         0 => {
             let room = numbers.below(ROW);
             (side, random_row(heap, numbers, room)?)
@@ -174,15 +174,20 @@ pub fn random_pair(heap: Global, numbers: &mut Numbers) -> Result<Pair, AllocErr
             (side, instance)
         }
         2 => (random_instance(heap, numbers, side.as_slice())?, side),
-        3 => {
+        _ => {
             let variant = random_variant(heap, numbers, side.as_slice())?;
             (side, variant)
         }
-        _ => {
-            let left = random_overlap(heap, numbers, side.as_slice())?;
-            (left, random_overlap(heap, numbers, side.as_slice())?)
-        }
     };
+    spoil(numbers, &mut formula);
+    Ok(Pair { left, formula })
+}
+
+// Two rows that often overlap. The formula may then be spoiled.
+pub fn overlapping_pair(heap: Global, numbers: &mut Numbers) -> Result<Pair, AllocError> {
+    let side = random_side(heap, numbers)?;
+    let left = random_overlap(heap, numbers, side.as_slice())?;
+    let mut formula = random_overlap(heap, numbers, side.as_slice())?;
     spoil(numbers, &mut formula);
     Ok(Pair { left, formula })
 }
