@@ -1,5 +1,5 @@
 -- Each check has one answer. Assumes nothing.
-use Rattle.std.proofs.Common.{◌≡◌, ℕ, ◌<◌, ◌≤◌, true, false, List, length, take, drop, Ok, Err, Result, sym, refl, ap, ◌∙◌, subst, ⊎_elim, arith, take-append-drop}
+use Rattle.std.proofs.Common.{◌≡◌, ℕ, ◌<◌, ◌≤◌, true, false, List, length, take, drop, Ok, Err, sym, refl, ap, ◌∙◌, subst, ⊎_elim, arith, take-append-drop}
 use lib.ListN.{length-map}
 use Rattle.std.proofs.lemmas.List.{take_all, length-take-le}
 use Rattle.std.proofs.lemmas.Bool.{cases_order, true≢false}
@@ -10,8 +10,8 @@ use Rattle.refusals.specs.declared.RuleFault.TheVariants.{Cells, BareVariable, N
 use Rattle.refusals.specs.declared.Side.TheVariants.{Left, Right}
 use Rattle.cells.specs.Cells.{Cell, cell, row}
 use Rattle.cells.specs.Rows.{Whole, Stands, Occurs}
-use Rattle.cells.specs.Checks.{CheckedRow, FirstBad, RowFault, OneRowAnswer}
-use Rattle.cells.specs.Rules.{Sides, bare, GoodLeft, GoodSides, FirstWithout, SidesFault, OneSidesAnswer}
+use Rattle.cells.specs.Checks.{CheckedRow, RowFault, OneRowAnswer}
+use Rattle.cells.specs.Rules.{Sides, bare, GoodSides, SidesFault, OneSidesAnswer}
 use Rattle.cells.proofs.Terms.{same_front, terms_reads}
 
 -- only one front of a row is whole

@@ -1,16 +1,16 @@
 -- The test of a checked rule says what a checked rule is, and numbering makes one. Assumes nothing.
-use Rattle.std.proofs.Common.{◌≡◌, ℕ, zero, suc, ◌+◌, ◌-◌, ◌<◌, ◌≤◌, true, false, not, ◌&&◌, ltb, leb, ◌⊎◌, List, [], ◌∷◌, map, length, get_or, sym, refl, ap, ◌∙◌, subst, inl, inr, ⊎_elim, arith}
+use Rattle.std.proofs.Common.{◌≡◌, ℕ, zero, suc, ◌+◌, ◌≤◌, true, not, ◌&&◌, ltb, leb, List, [], ◌∷◌, length, sym, refl, ap, ◌∙◌, subst, arith}
 use lib.ListN.{length-map}
-use Rattle.std.proofs.lemmas.Bool.{and_parts, and_from, leb-true, le-leb, ltb-true, lt-ltb, not-true, not_from_false, cases_lt}
-use Rattle.cells.specs.Cells.{Cell, symbol, variable, cell, is_cell, IsCell, AllCells, row, words}
-use Rattle.cells.specs.Rows.{terms, Whole, Stands, Occurs}
+use Rattle.std.proofs.lemmas.Bool.{and_parts, and_from, leb-true, le-leb, ltb-true, lt-ltb, not-true, not_from_false}
+use Rattle.cells.specs.Cells.{Cell, symbol, variable, cell, is_cell, AllCells, row, words}
+use Rattle.cells.specs.Rows.{terms, Whole, Stands}
 use Rattle.cells.specs.Substitutions.{rename}
 use Rattle.cells.specs.Variables.{index, Listed, variables, renamed_word}
 use Rattle.cells.specs.Checks.{CheckedRow}
-use Rattle.cells.specs.Rules.{Sides, sides, numbered, bare, Each, Covered, GoodLeft, GoodSides, CheckedRule, all_cells, row_ok, listed, counts_from, rule_ok, RuleLaws}
+use Rattle.cells.specs.Rules.{Sides, numbered, bare, Each, Covered, GoodSides, CheckedRule, all_cells, row_ok, listed, counts_from, rule_ok, RuleLaws}
 use Rattle.cells.proofs.Terms.{terms_reads, terms_length}
-use Rattle.cells.proofs.Words.{cell_symbol, cell_variable, words_row, is_cell_cases, variable_is_cell}
-use Rattle.cells.proofs.Listing.{index_le, length_variables, no_variable}
+use Rattle.cells.proofs.Words.{words_row}
+use Rattle.cells.proofs.Listing.{index_le, length_variables}
 use Rattle.cells.proofs.Renamed.{rename_same, stands_rename, rename_stands, words_rename, row_rename, renamed_cells, renamed_whole}
 use Rattle.cells.proofs.Variants.{variable_laws}
 use Rattle.cells.proofs.Counting.{counts_listed, counting, normal_counts}

@@ -1,7 +1,7 @@
 -- Laws of substitutions. Assumes nothing.
 use Rattle.std.proofs.Common.{◌≡◌, ℕ, zero, suc, ◌+◌, List, [], ◌∷◌, ◌++◌, sym, refl, ap, ◌∙◌, subst, append_assoc, zero-add, arith}
-use Rattle.cells.specs.Cells.{Cell, symbol, variable, arity}
-use Rattle.cells.specs.Rows.{Whole, Occurs, Stands}
+use Rattle.cells.specs.Cells.{Cell, symbol, variable}
+use Rattle.cells.specs.Rows.{Occurs, Stands}
 use Rattle.cells.specs.Substitutions.{Substitution, substitute, rename, SubstitutionLaws}
 use Rattle.cells.proofs.Terms.{Reads, reads_terms, terms_reads, reads_append, reads_whole, same_front}
 

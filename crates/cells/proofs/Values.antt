@@ -1,13 +1,13 @@
 -- The laws of interpretations. Assumes nothing.
-use Rattle.std.proofs.Common.{◌≡◌, ℕ, zero, suc, ◌+◌, ◌-◌, ◌≤◌, List, [], ◌∷◌, ◌++◌, map, length, take, drop, sym, refl, ap, ◌∙◌, append-nil, arith, length-append, length-drop}
+use Rattle.std.proofs.Common.{◌≡◌, ℕ, zero, suc, ◌+◌, List, [], ◌∷◌, ◌++◌, map, length, take, drop, sym, refl, ap, ◌∙◌, arith, length-drop}
 use lib.ListN.{length-map}
 use Rattle.std.specs.List.{AllByRecursion, flat_map}
 use Rattle.std.proofs.lemmas.List.{take-append-le, drop-append-le, take_all}
-use Rattle.cells.specs.Cells.{Cell, symbol, variable, arity}
+use Rattle.cells.specs.Cells.{Cell, symbol, variable}
 use Rattle.cells.specs.Rows.{Whole}
 use Rattle.cells.specs.Substitutions.{Substitution, substitute}
 use Rattle.cells.specs.Interpretations.{Interpretation, values, first, value, through, ValueLaws}
-use Rattle.cells.proofs.Terms.{Reads, Terms, terms_reads}
+use Rattle.cells.proofs.Terms.{Terms, terms_reads}
 
 module _ {V : Type 0} (i : Interpretation V) where
   -- n rows have n values

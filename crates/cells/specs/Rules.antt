@@ -1,5 +1,5 @@
 -- Rules: what is checked of two sides, and how they are numbered. Assumes nothing.
-use Rattle.std.specs.Prelude.{◌≡◌, ℕ, suc, ◌+◌, ◌<◌, ◌≤◌, Bool, true, false, not, ◌&&◌, ◌↔◌, List, [], ◌∷◌, length, Ok, Err, Result, ◌==◌, nat_le, nat_lt}
+use Rattle.std.specs.Prelude.{◌≡◌, ℕ, suc, ◌+◌, ◌<◌, Bool, true, false, not, ◌&&◌, ◌↔◌, List, [], ◌∷◌, length, Ok, Err, Result, ◌==◌, nat_le, nat_lt}
 use Rattle.refusals.specs.declared.RuleFault.{RuleFault}
 use Rattle.refusals.specs.declared.RuleFault.TheVariants.{Cells, BareVariable, NewVariable}
 use Rattle.refusals.specs.declared.Side.TheVariants.{Left, Right}

@@ -2,7 +2,7 @@
 use Rattle.std.proofs.Common.{◌≡◌, ℕ, ◌+◌, ◌-◌, ◌/◌, ◌%◌, ◌<◌, ◌≤◌, Bool, true, false, cond, eqb, ◌↔◌, List, [], ◌∷◌, ◌++◌, length, get_or, take, drop, Some, None, Option, sym, refl, ap, ◌∙◌, subst, ⊎_elim, append_assoc, append-nil, arith, length-append, take-append-drop}
 use lib.ListN.{length-map}
 use Rattle.std.specs.List.{between}
-use Rattle.std.proofs.lemmas.List.{take_at, take_all, drop_all, drop-drop, drop_more, take-map, drop-map, append_cancel_right}
+use Rattle.std.proofs.lemmas.List.{take_at, drop_all, drop-drop, drop_more, take-map, drop-map, append_cancel_right}
 use Rattle.std.proofs.lemmas.Bool.{false≢true, cond-true, cond-false, eq-eqb, ne_eqb, cases_eq, cases_lt}
 use Rattle.cells.specs.Cells.{Cell, symbol, variable, cell, word, row, words}
 use Rattle.cells.specs.Rows.{terms, Whole, Ends}

@@ -1,9 +1,9 @@
 -- Each question for a binding has one answer. Assumes nothing.
-use Rattle.std.proofs.Common.{◌≡◌, ℕ, List, length, get_or, take, Some, None, Ok, Err, Option, Result, sym, refl, ap, ◌∙◌, ⊎_elim, arith}
+use Rattle.std.proofs.Common.{◌≡◌, ℕ, List, length, take, Some, None, Ok, Err, Option, sym, refl, ap, ◌∙◌, ⊎_elim, arith}
 use Rattle.std.proofs.lemmas.List.{get_or-take, get_or_past, length-take}
 use Rattle.std.proofs.lemmas.Bool.{cases_order, cases_lt}
 use Rattle.cells.specs.Cells.{Cell, symbol, row}
-use Rattle.cells.specs.Rows.{Stands, Occurs}
+use Rattle.cells.specs.Rows.{Occurs}
 use Rattle.cells.specs.Substitutions.{substitute}
 use Rattle.cells.proofs.Substituting.{substitution_laws}
 use Rattle.matching.specs.declared.finding.Asked.{Asked}

@@ -1,11 +1,11 @@
 -- Walking through a pattern and the row that it becomes. Assumes nothing.
-use Rattle.std.proofs.Common.{◌≡◌, ℕ, zero, suc, ◌+◌, ◌-◌, ◌/◌, ◌%◌, ◌<◌, ◌≤◌, List, [], ◌∷◌, ◌++◌, length, get_or, take, drop, Some, None, Option, sym, refl, ap, ◌∙◌, subst, append-nil, add-one, arith, length-append, length-drop, take-append-drop}
+use Rattle.std.proofs.Common.{◌≡◌, ℕ, zero, suc, ◌+◌, ◌-◌, ◌/◌, ◌%◌, ◌<◌, ◌≤◌, List, [], ◌∷◌, ◌++◌, length, take, drop, Some, None, Option, sym, ap, ◌∙◌, append-nil, arith, length-append, length-drop, take-append-drop}
 use lib.ListN.{length-map}
 use Rattle.std.specs.List.{between}
-use Rattle.std.proofs.lemmas.List.{drop_all, drop_more}
+use Rattle.std.proofs.lemmas.List.{drop_all}
 use Rattle.cells.specs.Cells.{Cell, symbol, variable, cell, word, row}
-use Rattle.cells.specs.Rows.{Whole, Stands, Ends}
-use Rattle.cells.specs.Substitutions.{Substitution, substitute}
+use Rattle.cells.specs.Rows.{Stands, Ends}
+use Rattle.cells.specs.Substitutions.{substitute}
 use Rattle.cells.proofs.Words.{cell_symbol, cell_variable}
 use Rattle.cells.proofs.Terms.{row_laws}
 use Rattle.cells.proofs.Substituting.{substitute_append}

@@ -1,5 +1,5 @@
 -- The relations of a left side s to a formula t, and their common form. Assumes nothing.
-use Rattle.std.specs.Prelude.{◌≡◌, ℕ, ◌↔◌, List, length}
+use Rattle.std.specs.Prelude.{◌≡◌, ℕ, ◌↔◌, List}
 use Rattle.cells.specs.Cells.{Cell}
 use Rattle.cells.specs.Substitutions.{Substitution, substitute}
 use Rattle.cells.specs.Variables.{normalized, Variant}

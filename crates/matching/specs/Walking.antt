@@ -1,5 +1,5 @@
 -- Where what is put for a pattern's cells stands in the row that it becomes. Assumes nothing.
-use Rattle.std.specs.Prelude.{◌≡◌, ℕ, ◌+◌, ◌≤◌, List, ◌∷◌, length, drop, Some, None, Option, ◌≢◌}
+use Rattle.std.specs.Prelude.{◌≡◌, ℕ, ◌≤◌, List, ◌∷◌, length, drop, Some, None, Option, ◌≢◌}
 use Rattle.cells.specs.Cells.{Cell, row}
 use Rattle.cells.specs.Substitutions.{Substitution, substitute}
 use Rattle.matching.specs.Relations.{Turns}

@@ -1,14 +1,14 @@
 -- The pieces of a row under bindings. Assumes nothing.
-use Rattle.std.proofs.Common.{◌≡◌, ℕ, ◌+◌, ◌-◌, ◌<◌, ◌≤◌, min, List, [], ◌∷◌, ◌++◌, length, get_or, take, drop, Some, None, sym, refl, ap, ◌∙◌, ⊎_elim, append_assoc, append-nil, arith, length-append, length-drop, take-append-drop}
+use Rattle.std.proofs.Common.{◌≡◌, ℕ, ◌+◌, ◌-◌, ◌<◌, ◌≤◌, min, List, [], ◌∷◌, ◌++◌, length, get_or, take, drop, Some, None, sym, ap, ◌∙◌, ⊎_elim, append-nil, arith, length-append, length-drop, take-append-drop}
 use mathlib.Core.List.{map-append}
 use Rattle.std.proofs.lemmas.Bool.{cases_lt}
-use Rattle.std.proofs.lemmas.List.{take_more, take-map, drop-map, take_all, drop_all, drop-drop}
+use Rattle.std.proofs.lemmas.List.{take_more, take-map, drop-map, take_all, drop_all}
 use Rattle.substitution.specs.declared.bindings.Part.{Part}
 use Rattle.substitution.specs.declared.bindings.Binding.{Binding}
-use Rattle.cells.specs.Cells.{Cell, symbol, variable, cell, word, row, words}
+use Rattle.cells.specs.Cells.{cell, word, row, words}
 use Rattle.cells.specs.Substitutions.{substitute}
 use Rattle.substitution.specs.Bindings.{lookup, part_of, bound_in, under}
-use Rattle.cells.proofs.Words.{cell_symbol, cell_variable, word_cell, words_row}
+use Rattle.cells.proofs.Words.{cell_symbol, cell_variable, words_row}
 use Rattle.cells.proofs.Substituting.{substitute_append}
 
 -- a part as far as the source goes

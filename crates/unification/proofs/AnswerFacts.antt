@@ -1,5 +1,5 @@
 -- Writing the common form has one answer. Assumes nothing.
-use Rattle.std.proofs.Common.{◌≡◌, ℕ, ◌<◌, ◌≤◌, List, ◌++◌, length, drop, Some, None, Ok, Err, Option, Result, sym, refl, ap, ◌∙◌, subst, ⊎_elim, arith}
+use Rattle.std.proofs.Common.{◌≡◌, ℕ, ◌<◌, ◌≤◌, List, ◌++◌, length, drop, Some, None, Ok, Err, sym, refl, ap, ◌∙◌, ⊎_elim, arith}
 use Rattle.cells.specs.Cells.{Cell, row, words}
 use Rattle.cells.specs.Variables.{variables}
 use Rattle.matching.specs.declared.fault.MatchFault.{MatchFault}
@@ -7,7 +7,6 @@ use Rattle.matching.specs.Relations.{Unifiable, Common}
 use Rattle.matching.specs.Pairs.{GoodPair, PairFault}
 use Rattle.matching.proofs.Relating.{relation_laws}
 use Rattle.matching.proofs.Pairing.{one_pair_answer}
-use Rattle.unification.specs.declared.fault.FormFault.{FormFault}
 use Rattle.unification.specs.declared.fault.FormFault.TheVariants.{ShortBuffer, Rows, TooLarge}
 use Rattle.unification.specs.Forms.{Fitting, Passing}
 use Rattle.unification.specs.FormsOfRows.{OneRowsFormAnswer}

@@ -1,4 +1,4 @@
-use Rattle.std.proofs.Common.{◌≡◌, ◌-◌, take, sym, refl, subst, arith}
+use Rattle.std.proofs.Common.{◌≡◌, ◌-◌, take, refl, subst, arith}
 use lib.ListN.{length-map}
 use Rattle.std.proofs.lemmas.Slice.{between_to_end}
 use Rattle.cells.specs.Cells.{row}

@@ -1,4 +1,4 @@
-use Rattle.std.proofs.Common.{drop, subst}
+use Rattle.std.proofs.Common.{subst}
 use Rattle.cells.specs.Cells.{row}
 use Rattle.substitution.specs.Bindings.{bindings_list}
 use Rattle.matching.specs.Extending.{Extended}

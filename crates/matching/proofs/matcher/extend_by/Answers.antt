@@ -1,4 +1,4 @@
-use Rattle.std.proofs.Common.{◌≡◌, ◌+◌, Some, None, get_or, subst, arith}
+use Rattle.std.proofs.Common.{◌+◌, Some, None, arith}
 use Rattle.cells.specs.Cells.{cell, row}
 use Rattle.substitution.specs.Bindings.{bindings_list}
 use Rattle.matching.proofs.Stepping.{step_symbol, no_symbol, step_variable, no_bound, no_term, whole_after, stepped}

@@ -1,7 +1,7 @@
-use Rattle.std.proofs.Common.{◌≡◌, ◌+◌, ◌≤◌, ◌↔◌, length, drop, sym, subst, arith}
+use Rattle.std.proofs.Common.{◌+◌, ◌≤◌, ◌↔◌, length, drop, sym, subst, arith}
 use lib.ListN.{length-map}
 use Rattle.std.proofs.lemmas.List.{drop_all}
-use Rattle.cells.specs.Cells.{row, cell}
+use Rattle.cells.specs.Cells.{row}
 use Rattle.substitution.specs.Bindings.{bindings_list}
 use Rattle.matching.specs.Fronts.{OpenBefore}
 use Rattle.matching.proofs.Stepping.{row_more, longer_none, longer_more, longer_length, finished, failed}

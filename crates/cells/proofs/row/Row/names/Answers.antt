@@ -1,4 +1,4 @@
-use Rattle.std.proofs.Common.{◌≡◌, ◌+◌, ◌-◌, ◌<◌, ◌≤◌, Bool, length, get_or, take, set, sym, refl, ap, ◌∙◌, subst, arith, length-set, length-take, rules}
+use Rattle.std.proofs.Common.{◌≡◌, ◌+◌, ◌<◌, length, get_or, take, sym, refl, ap, ◌∙◌, arith, length-set, length-take, rules}
 use native.Mathlib.Nat.{sub-zero}
 use Rattle.std.proofs.lemmas.List.{length-replicate, take_all}
 use Rattle.cells.specs.Cells.{row}

@@ -1,9 +1,8 @@
-use Rattle.std.proofs.Common.{◌≡◌, sym, refl, ap, ◌∙◌, subst}
+use Rattle.std.proofs.Common.{◌≡◌, ap, ◌∙◌, subst}
 use Rattle.cells.specs.Cells.{row, words}
-use Rattle.cells.specs.Rows.{Occurs}
 use Rattle.cells.specs.Substitutions.{rename}
 use Rattle.cells.specs.Variables.{index, Listed, variables}
-use Rattle.cells.specs.Rules.{sides, bare, GoodLeft, GoodSides, FirstWithout, Each, rule_ok, numbered}
+use Rattle.cells.specs.Rules.{sides, GoodSides, FirstWithout, Each, rule_ok, numbered}
 use Rattle.cells.specs.Records.{row_words, names_list}
 use Rattle.cells.proofs.Variants.{variable_laws}
 use Rattle.cells.proofs.Ruling.{rule_laws}
@@ -14,15 +13,12 @@ use Rattle.cells.proofs.rule.Rule.new.Goals.{After-find_new, After-renamed-2}
 names : (c : After-find_new) → names_list c.names-names.result ≡ variables (row c.args.left.now)
 names c = c.names-names.ensures ∙ ap (λ z. variables (row z)) c.in_ok-from.ensures.1
 
-right : (c : After-find_new) → c.cells.result.now ≡ c.args.right.now
-right c = c.cells.ensures.value ∙ c.in_ok-to.ensures.1
-
 pub returns-in-Some : goal.returns-in-Some
 returns-in-Some c =
     let a = (goal.at.returns-in-Some c).After-find_new in
     let l = row c.args.left.now in
     let f : FirstWithout (Listed (variables l)) (row c.args.right.now) c.in-Some.place =
-    subst (λ z. FirstWithout (Listed (variables l)) (row z) c.in-Some.place) (right a)
+    subst (λ z. FirstWithout (Listed (variables l)) (row z) c.in-Some.place) (c.cells.ensures.value ∙ c.in_ok-to.ensures.1)
     (subst (λ us. FirstWithout (Listed us) (row c.cells.result.now) c.in-Some.place) (names a) c.in-Some.ensures) in (
       c.in_ok-from.ensures.0,
       c.in_ok-to.ensures.0,
@@ -34,12 +30,12 @@ returns-in-Some c =
       },
     )
 
-good : (c : After-renamed-2) → GoodSides (sides c.args.left.now c.args.right.now)
-good c =
+good : (c : After-renamed-2) → c.cells.result.now ≡ c.args.right.now → GoodSides (sides c.args.left.now c.args.right.now)
+good c right =
     let a = (goal.at.After-renamed-2 c).After-find_new in
     let l = row c.args.left.now in
     let e : Each (Listed (variables l)) (row c.args.right.now) =
-    subst (λ z. Each (Listed (variables l)) (row z)) (right a) (subst (λ us. Each (Listed us) (row c.cells.result.now)) (names a) c.in_default.ensures) in
+    subst (λ z. Each (Listed (variables l)) (row z)) right (subst (λ us. Each (Listed us) (row c.cells.result.now)) (names a) c.in_default.ensures) in
     record { left = c.in_ok-from.ensures.0; right = c.in_ok-to.ensures.0; covered = λ k v s. (variable_laws.listed l v).1 (e k v s) }
 
 -- both sides are renamed by the left side's variables
@@ -53,7 +49,7 @@ made c =
 pub invariant_of-result : goal.invariant_of-result
 invariant_of-result c =
     let s = sides c.args.left.now c.args.right.now in
-    record { checked = ap rule_ok (made c) ∙ (rule_laws.checked (numbered s)).1 (rule_laws.numbers s (good c)) }
+    record { checked = ap rule_ok (made c) ∙ (rule_laws.checked (numbered s)).1 (rule_laws.numbers s (good c (c.cells.ensures.value ∙ c.in_ok-to.ensures.1))) }
 
 pub returns : goal.returns
-returns c = let a = (goal.at.returns c).After-renamed-2 in (good a, made a)
+returns c = let a = (goal.at.returns c).After-renamed-2 in (good a (c.cells.ensures.value ∙ c.in_ok-to.ensures.1), made a)

@@ -1,4 +1,4 @@
-use Rattle.std.proofs.Common.{◌≡◌, ◌-◌, take, drop, sym, subst}
+use Rattle.std.proofs.Common.{◌-◌, subst}
 use Rattle.cells.specs.Cells.{row}
 use Rattle.cells.proofs.Listing.{stands_word}
 use Rattle.matching.specs.Bound.{BoundAt}

@@ -1,9 +1,7 @@
 use Rattle.std.proofs.Common.{◌≡◌, ℕ, ◌+◌, ◌-◌, ◌<◌, List, ◌∷◌, length, get_or, take, drop, sym, ap, ◌∙◌, arith, length-take}
-use native.Mathlib.Nat.{sub-zero}
 use Rattle.std.proofs.lemmas.List.{get_or-take}
 use Rattle.cells.specs.Cells.{cell, row}
 use Rattle.cells.specs.Substitutions.{substitute}
-use Rattle.matching.specs.Walking.{Reached}
 use Rattle.matching.proofs.Stepping.{row_more}
 use Rattle.matching.proofs.finding.calls.place.Goals as goal
 

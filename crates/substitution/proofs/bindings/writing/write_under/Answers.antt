@@ -1,4 +1,4 @@
-use Rattle.std.proofs.Common.{◌≡◌, ◌+◌, ◌++◌, length, take, drop, sym, refl, ap, ◌∙◌, arith, take-append-drop}
+use Rattle.std.proofs.Common.{◌+◌, ◌++◌, length, drop, sym, refl, ap, ◌∙◌, arith, take-append-drop}
 use Rattle.std.proofs.lemmas.List.{take_all, drop-drop}
 use Rattle.substitution.specs.Bindings.{bindings_list, under}
 use Rattle.substitution.proofs.Under.{under_more, length_under_more, under_le}
