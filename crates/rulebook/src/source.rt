@@ -32,7 +32,7 @@ impl fmt::Display for Unreadable {
     }
 }
 
-// `report` prints an error by `Debug`.
+// The error that `main` returns is printed by `Debug`.
 impl fmt::Debug for Unreadable {
     fn fmt<W: fmt::Write>(&self, f: &mut fmt::Formatter<W>) -> fmt::Result {
         write!(f, "{self}")

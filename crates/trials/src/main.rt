@@ -11,7 +11,6 @@ mod tally;
 mod unify;
 mod word;
 
-use anyhow::bail;
 use compare::compare;
 use forms::compare_forms;
 use numbers::Numbers;
@@ -61,20 +60,19 @@ fn try_all(rt: &HostRuntime, all: &[Tried]) -> anyhow::Result<()> {
 
 // The relations that bind variables, or with the word `forms` unification.
 fn run(rt: &HostRuntime) -> anyhow::Result<()> {
-    let Some(word) = env::args(rt)?.nth(1) else {
-        return try_all(
-            rt,
-            &[
-                Tried::Matching(Relation::General),
-                Tried::Matching(Relation::Instance),
-                Tried::Matching(Relation::Variant),
-            ],
-        );
-    };
-    if word.as_str() != "forms" {
-        bail!("unknown trial `{word}`");
+    if let Some(word) = env::args(rt)?.nth(1)
+        && word.as_str() == "forms"
+    {
+        return try_all(rt, &[Tried::Unification, Tried::Overlapping]);
     }
-    try_all(rt, &[Tried::Unification, Tried::Overlapping])
+    try_all(
+        rt,
+        &[
+            Tried::Matching(Relation::General),
+            Tried::Matching(Relation::Instance),
+            Tried::Matching(Relation::Variant),
+        ],
+    )
 }
 
 fn main(rt: HostRuntime) -> anyhow::Result<()> {
