@@ -13,7 +13,7 @@ use Rattle.substitution.specs.declared.bindings.Part.{Part}
 use Rattle.substitution.specs.declared.bindings.Binding.{Binding}
 use Rattle.substitution.specs.Bindings.{binding, lookup}
 use Rattle.matching.specs.Extending.{part, Agrees, AllWhole, Open, Bound, Stepped}
-use Rattle.matching.specs.Fronts.{OpenBefore, Longer, Matched, Unmatched, BoundBehind, SteppedBefore}
+use Rattle.matching.specs.Fronts.{OpenBefore, Longer, Matched, Unmatched, SteppedBefore}
 
 -- A list with bindings added behind.
 
@@ -29,6 +29,10 @@ longer_more b b' b'' m n k x y l = record {
   few = simp length-append (omega (arith, x.few, y.few));
   is = y.is ∙ ap (λ z. z ++ y.more) x.is ∙ append_assoc b x.more y.more;
 }
+
+pub longer_push : (b b' : List Binding) (x : Binding) (r : Bool) → b' ≡ cond r (b ++ x ∷ []) b → Longer b 1 b'
+longer_push b b' x true e = subst (Longer b 1) (sym e) (longer_one b x)
+longer_push b b' x false e = subst (Longer b 1) (sym e) (longer_none b 1)
 
 -- cut back to its old length the list is the old one
 pub cut_back : (b b' : List Binding) (n : ℕ) → Longer b n b' → take (length b) b' ≡ b
@@ -75,9 +79,9 @@ module _ (source : List ℕ) (b : List Binding) (w : ℕ) (big : 2147483648 ≤ 
   at_w : 2147483648 + (w - 2147483648) ≡ w
   at_w = omega arith
 
-  pub bound_new : (p : Part) → lookup b w ≡ None → part source p ≡ q → BoundBehind source b (w - 2147483648) q true (b ++ binding w p ∷ [])
+  pub bound_new : (p : Part) → lookup b w ≡ None → part source p ≡ q → Bound source b (w - 2147483648) q true (b ++ binding w p ∷ [])
   bound_new p none e = (
-    longer_one b (binding w p),
+    simp length-append (omega arith),
     (λ h a u p' f. pushed b w p u p' (Whole (part source p')) none f (a u p') (λ s t. subst Whole (sym e ∙ ap (part source) (sym t)) h)),
     (λ σ. (
       (λ h u p' f. pushed b w p (2147483648 + u) p' (σ u ≡ part source p') none f (h.0 u p')
@@ -89,15 +93,15 @@ module _ (source : List ℕ) (b : List Binding) (w : ℕ) (big : 2147483648 ≤ 
     )),
   )
 
-  pub bound_old : (p : Part) → lookup b w ≡ Some p → part source p ≡ q → BoundBehind source b (w - 2147483648) q true b
+  pub bound_old : (p : Part) → lookup b w ≡ Some p → part source p ≡ q → Bound source b (w - 2147483648) q true b
   bound_old p f e = (
-    longer_none b 1,
+    omega arith,
     (λ h a. a),
     (λ σ. ((λ h. h.0), (λ h. (h, h (w - 2147483648) p (ap (lookup b) at_w ∙ f) ∙ e)))),
   )
 
-  pub bound_not : (p : Part) → lookup b w ≡ Some p → (part source p ≡ q → ⊥) → BoundBehind source b (w - 2147483648) q false b
-  bound_not p f n = (longer_none b 1, (λ σ a h. n (sym (a (w - 2147483648) p (ap (lookup b) at_w ∙ f)) ∙ h)))
+  pub bound_not : (p : Part) → lookup b w ≡ Some p → (part source p ≡ q → ⊥) → Bound source b (w - 2147483648) q false b
+  bound_not p f n = λ σ a h. n (sym (a (w - 2147483648) p (ap (lookup b) at_w ∙ f)) ∙ h)
 
 -- A part in words and in cells.
 
@@ -111,14 +115,14 @@ same_parts x y e = sym (words_row x) ∙ ap words e ∙ words_row y
 
 module _ (source : List ℕ) (b : List Binding) (w : ℕ) (big : 2147483648 ≤ w) (at e : ℕ) where
   pub bound_by : (p : Part) (r : Bool) → lookup b w ≡ Some p → (r ≡ true → take p.len (drop p.at source) ≡ between at e source) → (take p.len (drop p.at source) ≡ between at e source → r ≡ true)
-      → BoundBehind source b (w - 2147483648) (between at e (row source)) r b
+      → Bound source b (w - 2147483648) (between at e (row source)) r b
   bound_by p true f yes-same no_other = bound_old source b w big (between at e (row source)) p f (row_part source p.len p.at ∙ ap row (yes-same refl) ∙ sym (row_part source (e - at) at))
   bound_by p false f yes-same no_other =
       bound_not source b w big (between at e (row source)) p f
       (λ h. false≢true (no_other (same_parts _ _ (sym (row_part source p.len p.at) ∙ h ∙ row_part source (e - at) at))))
 
-  pub bound_push : (r : Bool) (b' : List Binding) → r ≡ true → b' ≡ cond r (b ++ binding w (record { at = at; len = e - at }) ∷ []) b → lookup b w ≡ None → BoundBehind source b (w - 2147483648) (between at e (row source)) r b'
-  bound_push true b' t e' none = subst (λ x. BoundBehind source b (w - 2147483648) (between at e (row source)) true x) (sym e') (bound_new source b w big (between at e (row source)) (record { at = at; len = e - at }) none refl)
+  pub bound_push : (r : Bool) (b' : List Binding) → r ≡ true → b' ≡ cond r (b ++ binding w (record { at = at; len = e - at }) ∷ []) b → lookup b w ≡ None → Bound source b (w - 2147483648) (between at e (row source)) r b'
+  bound_push true b' t e' none = subst (λ x. Bound source b (w - 2147483648) (between at e (row source)) true x) (sym e') (bound_new source b w big (between at e (row source)) (record { at = at; len = e - at }) none refl)
   bound_push false b' t e' none = absurd (false≢true t)
 
 pub row_more : (source : List ℕ) (at : ℕ) → at < length source → drop at (row source) ≡ cell (get_or source at 0) ∷ drop (at + 1) (row source)
@@ -186,9 +190,9 @@ module _ (source : List ℕ) (at e : ℕ) (ends : Ends source at (Some e)) where
 
 module _ (source : List ℕ) (b : List Binding) (w at : ℕ) (big : 2147483648 ≤ w) where
   module _ (e : ℕ) (ends : Ends source at (Some e)) where
-    pub step_variable : (b' : List Binding) → BoundBehind source b (w - 2147483648) (between at e (row source)) true b' → SteppedBefore source b (cell w) at (Some e) b'
-    step_variable b' h = (
-      h.0,
+    pub step_variable : (b' : List Binding) → Longer b 1 b' → Bound source b (w - 2147483648) (between at e (row source)) true b' → SteppedBefore source b (cell w) at (Some e) b'
+    step_variable b' l h = (
+      l,
       after source at e ends,
       ends.0,
       h.1 ends.1,
@@ -198,13 +202,13 @@ module _ (source : List ℕ) (b : List Binding) (w at : ℕ) (big : 2147483648 �
           ((λ x. let y = o.0 x in ((h.2 σ).0 y.0, y.1)), (λ x. o.1 ((h.2 σ).1 x.0, x.1)))),
     )
 
-    pub no_bound : (b' : List Binding) → BoundBehind source b (w - 2147483648) (between at e (row source)) false b' → SteppedBefore source b (cell w) at None b'
-    no_bound b' h = (
-      h.0,
+    pub no_bound : (b' : List Binding) → Longer b 1 b' → Bound source b (w - 2147483648) (between at e (row source)) false b' → SteppedBefore source b (cell w) at None b'
+    no_bound b' l h = (
+      l,
       (λ σ s r p x.
           let y = (open_variable source b σ s r (w - 2147483648) (between at e (row source)) (drop at (row source)) (drop e (row source)) p ends.1 (rest source at e ends)).0
           (subst (λ c. OpenBefore source b (c ∷ s) r (drop at (row source)) σ) (cell_variable w big) x) in
-          h.1 σ y.0.0 y.0.1),
+          h σ y.0.0 y.0.1),
     )
 
   pub no_term : Ends source at None → SteppedBefore source b (cell w) at None b
@@ -266,7 +270,3 @@ stepped source b b' c at (Some next) h = (
       ((λ y. end_open source b' s then σ (x.0 (open_end source b (c ∷ s) now σ y))), (λ y. end_open source b (c ∷ s) now σ (x.1 (open_end source b' s then σ y))))),
 )
 stepped source b b' c at None h = λ σ s p y. h.1 σ s [] p (open_end source b (c ∷ s) (drop at (row source)) σ y)
-
-pub bound : (source : List ℕ) (b b' : List Binding) (v : ℕ) (q : List Cell) (r : Bool) → BoundBehind source b v q r b' → Bound source b v q r b'
-bound source b b' v q true h = (longer_length b b' 1 h.0, h.1, h.2)
-bound source b b' v q false h = h.1

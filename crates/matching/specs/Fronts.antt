@@ -1,8 +1,7 @@
 -- Matching a pattern against a front of what stands at a position of a row. Assumes nothing.
-use Rattle.std.specs.Prelude.{◌≡◌, ℕ, ◌≤◌, Bool, true, false, ◌↔◌, List, ◌∷◌, ◌++◌, length, take, drop, Some, None, Option, ◌≢◌}
+use Rattle.std.specs.Prelude.{◌≡◌, ℕ, ◌≤◌, ◌↔◌, List, ◌∷◌, ◌++◌, length, take, drop, Some, None, Option, ◌≢◌}
 use Rattle.std.specs.List.{between}
 use Rattle.cells.specs.Cells.{Cell, row}
-use Rattle.cells.specs.Rows.{Whole}
 use Rattle.cells.specs.Substitutions.{Substitution, substitute}
 use Rattle.substitution.specs.declared.bindings.Binding.{Binding}
 use Rattle.matching.specs.Extending.{Agrees, AllWhole}
@@ -40,11 +39,6 @@ FrontMatched source b s at None b' = Longer b (length s) b' × Unmatched source 
 abbrev pub Fits : List ℕ → List Binding → List Cell → ℕ → Option ℕ → Type 0
 Fits source b s at (Some end) = AllWhole source b → (σ : ℕ → List Cell) × Substitution σ × Agrees source b σ × (substitute σ s ≡ between at end (row source))
 Fits source b s at None = Unmatched source b s at
-
--- the variable v is bound to q, and at most one binding is added behind
-abbrev pub BoundBehind : List ℕ → List Binding → ℕ → List Cell → Bool → List Binding → Type 0
-BoundBehind source b v q true b' = Longer b 1 b' × (Whole q → AllWhole source b → AllWhole source b') × ((σ : ℕ → List Cell) → (Agrees source b σ × (σ v ≡ q)) ↔ Agrees source b' σ)
-BoundBehind source b v q false b' = Longer b 1 b' × ((σ : ℕ → List Cell) → Agrees source b σ → σ v ≢ q)
 
 -- the cell c of a pattern is matched at a position, whatever follows it in the pattern and whatever cells r are left of the row
 abbrev pub SteppedBefore : List ℕ → List Binding → Cell → ℕ → Option ℕ → List Binding → Type 0

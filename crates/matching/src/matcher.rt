@@ -4,7 +4,7 @@ ghost use Rattle.std.specs.List.{between};
 ghost use Rattle.cells.specs.Cells.{cell, row};
 ghost use Rattle.substitution.specs.Bindings.{bindings_list};
 ghost use Rattle.matching.specs.Extending.{Bound, Stepped, Extended};
-ghost use Rattle.matching.specs.Fronts.{BoundBehind, SteppedBefore, FrontMatched, Fits};
+ghost use Rattle.matching.specs.Fronts.{Longer, SteppedBefore, FrontMatched, Fits};
 
 use cells::{VARIABLE, term_end};
 use substitution::{Bindings, Part, Trial, clipped};
@@ -24,7 +24,7 @@ fn bind(cell: u32, target: &[u32], at: usize, end: usize, list: &mut Bindings) -
     requires inside { end ≤ length target.now }
     requires room { length (bindings_list list.old) < 256 }
     ensures bound { Bound target.now (bindings_list list.old) (cell - 2147483648) (between at end (row target.now)) result (bindings_list list.new) }
-    ensures behind { BoundBehind target.now (bindings_list list.old) (cell - 2147483648) (between at end (row target.now)) result (bindings_list list.new) }
+    ensures behind { Longer (bindings_list list.old) 1 (bindings_list list.new) }
 {
     match list.find(cell) {
         Some(part) => same_words(clipped(target, part), &target[at..end]),
@@ -73,7 +73,8 @@ pub fn match_front(pattern: &[u32], target: &[u32], at: usize, list: &mut Bindin
 pub fn extend(pattern: &[u32], target: &[u32], start: usize, list: &mut Bindings) -> bool
     requires inside { start ≤ length target.now }
     requires room { length (bindings_list list.old) + length pattern.now ≤ 256 }
-    ensures { Extended target.now (bindings_list list.old) (row pattern.now) (drop start (row target.now)) result (bindings_list list.new) }
+    ensures extended { Extended target.now (bindings_list list.old) (row pattern.now) (drop start (row target.now)) result (bindings_list list.new) }
+    ensures behind { Longer (bindings_list list.old) (length (row pattern.now)) (bindings_list list.new) }
 {
     match match_front(pattern, target, start, list) {
         Some(end) => end == target.len(),

@@ -9,4 +9,4 @@ pub returns : goal.returns
 returns c =
     let t = c.args.target.now in
     let s = row c.args.pattern.now in
-    decided t s c.extend.result (bindings_list c.extend.new.list) (subst (λ b. Extended t b s (row t) c.extend.result (bindings_list c.extend.new.list)) c.none-list.ensures c.extend.ensures)
+    decided t s c.extend.result (bindings_list c.extend.new.list) (subst (λ b. Extended t b s (row t) c.extend.result (bindings_list c.extend.new.list)) c.none-list.ensures c.extend.ensures.extended)

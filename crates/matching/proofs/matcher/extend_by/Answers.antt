@@ -39,7 +39,7 @@ returns-then-not-bind c =
     let t = c.args.target.now in
     let b = bindings_list c.args.list.now in
     let b' = bindings_list c.bind.new.list in
-    let h = no_bound t b c.args.w c.args.at c.if-w-lt-VARIABLE.false c.in-Some.end c.in-Some.ensures b' c.if-not-bind.ensures.behind in
+    let h = no_bound t b c.args.w c.args.at c.if-w-lt-VARIABLE.false c.in-Some.end c.in-Some.ensures b' c.if-not-bind.ensures.behind c.if-not-bind.ensures.bound in
     record { stepped = stepped t b b' (cell c.args.w) c.args.at None h; before = h }
 
 pub returns : goal.returns
@@ -47,5 +47,5 @@ returns c =
     let t = c.args.target.now in
     let b = bindings_list c.args.list.now in
     let b' = bindings_list c.bind.new.list in
-    let h = step_variable t b c.args.w c.args.at c.if-w-lt-VARIABLE.false c.in-Some.end c.in-Some.ensures b' c.if-not-bind.ensures.behind in
+    let h = step_variable t b c.args.w c.args.at c.if-w-lt-VARIABLE.false c.in-Some.end c.in-Some.ensures b' c.if-not-bind.ensures.behind c.if-not-bind.ensures.bound in
     record { stepped = stepped t b b' (cell c.args.w) c.args.at (Some c.in-Some.end) h; before = h }
