@@ -6,3 +6,4 @@ pub mod Walking
 pub mod Refusals
 pub mod Pairs
 pub mod Bound
+pub mod Named

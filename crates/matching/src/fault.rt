@@ -27,13 +27,13 @@ impl From<CellFault> for MatchFault {
     }
 }
 
-impl MatchFault {
-    pub fn told(self) -> Refusal
-        ensures { result ≡ match_refusal self }
-    {
-        match self {
-            MatchFault::Left(f) => f.told(),
-            MatchFault::Formula(f) => f.told(),
+impl From<MatchFault> for Refusal {
+    ghost from_gives = { λ f r. r ≡ match_refusal f };
+
+    fn from(fault: MatchFault) -> Refusal {
+        match fault {
+            MatchFault::Left(f) => f.into(),
+            MatchFault::Formula(f) => f.into(),
         }
     }
 }

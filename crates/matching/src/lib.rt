@@ -7,6 +7,7 @@ mod finding;
 pub mod inner;
 mod matcher;
 mod pair;
+mod relation;
 mod theorems;
 
 pub use deciding::{is_general, is_instance, is_variant};
@@ -14,4 +15,5 @@ pub use fault::MatchFault;
 pub use finding::calls::binding;
 pub use finding::{Asked, Found};
 pub use pair::{CheckedPair, check_pair};
+pub use relation::{Relation, UnknownRelation};
 pub use theorems::relation_laws;

@@ -1,5 +1,6 @@
 -- What is told of each fault: number, layer and place. Nothing else turns a fault into numbers. Assumes nothing.
-use Rattle.std.specs.Prelude.{List, ℕ, codes}
+use Rattle.std.specs.Prelude.{List, ℕ, ◌++◌, codes}
+use Rattle.std.specs.Fmt.{decimal}
 use Rattle.refusals.specs.declared.CellFault.{CellFault}
 use Rattle.refusals.specs.declared.CellFault.TheVariants.{Length, NoCell, EndsEarly, LeftOver}
 use Rattle.refusals.specs.declared.RuleFault.{RuleFault}
@@ -42,3 +43,11 @@ layer_name layer.Cells = codes "cells"
 layer_name layer.Rule = codes "rule"
 layer_name layer.Book = codes "book"
 layer_name layer.CommonForm = codes "common form"
+
+abbrev pub side_name : Side → List ℕ
+side_name Left = codes "left"
+side_name Right = codes "right"
+
+-- the words of the line that is printed
+abbrev pub refusal_text : Refusal → List ℕ
+refusal_text r = codes "refused " ++ decimal r.number ++ codes " " ++ layer_name r.layer ++ codes " " ++ decimal r.place

@@ -1,9 +1,11 @@
 // Why a row, a rule or a number is refused, and what is told of it.
 #![tactic(auto)]
 
-ghost use Rattle.std.specs.Prelude.{◌≡◌};
-ghost use Rattle.refusals.specs.Refusals.{refusal, cell_refusal, rule_refusal, number_refusal, side_of, layer_name};
+ghost use Rattle.std.specs.Prelude.{◌≡◌, Some};
+ghost use Rattle.refusals.specs.Refusals.{refusal, cell_refusal, rule_refusal, number_refusal, side_of, layer_name, side_name, refusal_text};
 ghost use Rattle.refusals.specs.declared.RuleFault.TheVariants.{Cells};
+
+use std::fmt;
 
 // The layer at which a call is refused.
 #[derive(Clone, Copy, PartialEq, Eq)]
@@ -80,11 +82,11 @@ impl Refusal {
     }
 }
 
-impl CellFault {
-    pub fn told(self) -> Refusal
-        ensures { result ≡ cell_refusal self }
-    {
-        match self {
+impl From<CellFault> for Refusal {
+    ghost from_gives = { λ f r. r ≡ cell_refusal f };
+
+    fn from(fault: CellFault) -> Refusal {
+        match fault {
             CellFault::Length(place) => Refusal::new(1, Layer::Cells, place),
             CellFault::NoCell(place) => Refusal::new(2, Layer::Cells, place),
             CellFault::EndsEarly(place) => Refusal::new(3, Layer::Cells, place),
@@ -93,17 +95,29 @@ impl CellFault {
     }
 }
 
-impl RuleFault {
-    pub fn told(self) -> Refusal
-        ensures { result ≡ rule_refusal self }
-    {
-        match self {
-            RuleFault::Cells(_, fault) => fault.told(),
+impl From<RuleFault> for Refusal {
+    ghost from_gives = { λ f r. r ≡ rule_refusal f };
+
+    fn from(fault: RuleFault) -> Refusal {
+        match fault {
+            RuleFault::Cells(_, fault) => fault.into(),
             RuleFault::BareVariable => Refusal::new(4, Layer::Rule, 0),
             RuleFault::NewVariable(place) => Refusal::new(5, Layer::Rule, place),
         }
     }
+}
 
+impl From<NumberFault> for Refusal {
+    ghost from_gives = { λ f r. r ≡ number_refusal f };
+
+    fn from(fault: NumberFault) -> Refusal {
+        match fault {
+            NumberFault::OutOfRange(n) => Refusal::new(6, Layer::Book, n as usize),
+        }
+    }
+}
+
+impl RuleFault {
     // The side that the fault speaks of.
     pub fn side(self) -> Side
         ensures { result ≡ side_of self }
@@ -116,27 +130,36 @@ impl RuleFault {
     }
 }
 
-impl NumberFault {
-    pub fn told(self) -> Refusal
-        ensures { result ≡ number_refusal self }
-    {
-        match self {
-            NumberFault::OutOfRange(n) => Refusal::new(6, Layer::Book, n as usize),
-        }
-    }
-}
+impl fmt::Display for Layer {
+    ghost output = { λ l. Some (layer_name l) };
 
-impl Layer {
-    pub fn name(self) -> &'static str
-        ensures { result.now ≡ layer_name self }
-    {
-        match self {
+    fn fmt<W: fmt::Write>(&self, f: &mut fmt::Formatter<W>) -> fmt::Result {
+        f.write_str(match self {
             Layer::Buffers => "buffers",
             Layer::File => "file",
             Layer::Cells => "cells",
             Layer::Rule => "rule",
             Layer::Book => "book",
             Layer::CommonForm => "common form",
-        }
+        })
+    }
+}
+
+impl fmt::Display for Side {
+    ghost output = { λ s. Some (side_name s) };
+
+    fn fmt<W: fmt::Write>(&self, f: &mut fmt::Formatter<W>) -> fmt::Result {
+        f.write_str(match self {
+            Side::Left => "left",
+            Side::Right => "right",
+        })
+    }
+}
+
+impl fmt::Display for Refusal {
+    ghost output = { λ r. Some (refusal_text r) };
+
+    fn fmt<W: fmt::Write>(&self, f: &mut fmt::Formatter<W>) -> fmt::Result {
+        write!(f, "refused {} {} {}", self.number, self.layer, self.place)
     }
 }

@@ -159,7 +159,7 @@ impl fmt::Display for Answer {
                 f,
                 "{} {}",
                 pair_side(*fault),
-                RefusalText(fault.told())
+                RefusalText(Refusal::from(*fault))
             ),
         }
     }

@@ -19,7 +19,7 @@ fn check_formula(cells: &[u32]) -> Answer
             cells: formula.cells().len(),
             variables: formula.variable_count(),
         }),
-        Err(fault) => Answer::Refused(fault.told()),
+        Err(fault) => Answer::Refused(fault.into()),
     }
 }
 
@@ -28,7 +28,7 @@ fn check_rule(sides: &Pair) -> Answer
 {
     match Rule::new(sides.left.as_slice(), sides.right.as_slice()) {
         Ok(rule) => Answer::Rule(rule),
-        Err(fault) => Answer::SideRefused(fault.side(), fault.told()),
+        Err(fault) => Answer::SideRefused(fault.side(), fault.into()),
     }
 }
 
@@ -93,7 +93,7 @@ fn common(heap: Global, rows: &Pair) -> Result<Answer, AllocError>
             None => Ok(Answer::Nothing),
         },
         Err(FormFault::Rows(fault)) => Ok(Answer::PairRefused(fault)),
-        Err(fault) => Ok(Answer::Refused(fault.told())),
+        Err(fault) => Ok(Answer::Refused(fault.into())),
     }
 }
 

@@ -22,13 +22,13 @@ impl From<MatchFault> for FormFault {
     }
 }
 
-impl FormFault {
-    pub fn told(self) -> Refusal
-        ensures { result ≡ form_refusal self }
-    {
-        match self {
+impl From<FormFault> for Refusal {
+    ghost from_gives = { λ f r. r ≡ form_refusal f };
+
+    fn from(fault: FormFault) -> Refusal {
+        match fault {
             FormFault::ShortBuffer(length) => Refusal::new(10, Layer::Buffers, length),
-            FormFault::Rows(fault) => fault.told(),
+            FormFault::Rows(fault) => fault.into(),
             FormFault::TooLarge => Refusal::new(11, Layer::CommonForm, 0),
         }
     }
