@@ -70,30 +70,11 @@ impl fmt::Display for CellsText<'_> {
     }
 }
 
-#[derive(Clone, Copy)]
-struct RefusalText(Refusal);
-
-impl fmt::Display for RefusalText {
-    fn fmt<W: fmt::Write>(&self, f: &mut fmt::Formatter<W>) -> fmt::Result {
-        let number = self.0.number;
-        let layer = self.0.layer.name();
-        let place = self.0.place;
-        write!(f, "refused {number} {layer} {place}")
-    }
-}
-
 // The row of a pair that is refused.
 fn pair_side(fault: MatchFault) -> &'static str {
     match fault {
         MatchFault::Left(_) => "left",
         MatchFault::Formula(_) => "formula",
-    }
-}
-
-fn side_name(side: Side) -> &'static str {
-    match side {
-        Side::Left => "left",
-        Side::Right => "right",
     }
 }
 
@@ -134,13 +115,8 @@ impl fmt::Display for Answer {
                 CellsText(rule.left()),
                 CellsText(rule.right())
             ),
-            Answer::Refused(refusal) => write!(f, "{}", RefusalText(*refusal)),
-            Answer::SideRefused(side, refusal) => write!(
-                f,
-                "{} {}",
-                side_name(*side),
-                RefusalText(*refusal)
-            ),
+            Answer::Refused(refusal) => write!(f, "{refusal}"),
+            Answer::SideRefused(side, refusal) => write!(f, "{side} {refusal}"),
             Answer::Part(PartCells { at, cells }) => write!(
                 f,
                 "part {at} {}: {}",
@@ -159,7 +135,7 @@ impl fmt::Display for Answer {
                 f,
                 "{} {}",
                 pair_side(*fault),
-                RefusalText(Refusal::from(*fault))
+                Refusal::from(*fault)
             ),
         }
     }
