@@ -1,7 +1,11 @@
 -- The variables of a row: what `index`, `include` and `collect` keep. Assumes nothing.
-use Rattle.std.proofs.Common.{◌≡◌, ℕ, zero, suc, ◌+◌, ◌-◌, ◌<◌, ◌≤◌, ltb, ◌⊎◌, List, [], ◌∷◌, ◌++◌, length, get_or, take, sym, refl, ap, ◌∙◌, inl, inr, ⊎_elim, append_assoc, append-nil, arith}
+use Rattle.std.proofs.Common.{◌≡◌, ℕ, zero, suc, ◌+◌, ◌-◌, ◌<◌, ◌≤◌, eqb, ltb, cond, ◌⊎◌, List, [], ◌∷◌, ◌++◌, length, get_or, take, sym, refl, ap, ◌∙◌, inl, inr, ⊎_elim, append_assoc, append-nil, arith}
 use Rattle.std.proofs.lemmas.Bool.{cond_both, ltb-true, ltb-false, cases_lt, cases_eq}
 use Rattle.std.proofs.lemmas.List.{length-append, map_more}
+use Rattle.std.proofs.lemmas.List.Recursion.{is_position_or_len}
+use Rattle.std.proofs.lemmas.Grind.{common_steps}
+use Rattle.std.specs.List.{list_any, position, position_or_len}
+use Rattle.std.specs.Option.{unwrap_or}
 use Rattle.cells.specs.Cells.{Cell, symbol, variable, cell, row}
 use Rattle.cells.specs.Rows.{Occurs, Stands}
 use Rattle.cells.specs.Variables.{index, Listed, include, collect, variables}
@@ -23,9 +27,21 @@ word_stands (w ∷ ws) (suc k) v h e = word_stands ws k v (omega arith) e
 
 -- `index`.
 
+-- in the library's words
+pub listed_any : (us : List ℕ) (v : ℕ) → list_any (λ u. eqb u v) us ≡ ltb (index us v) (length us)
+listed_any [] v = refl
+listed_any (u ∷ us) v = let r = listed_any us v in grind arith
+
 pub index_le : (us : List ℕ) (v : ℕ) → index us v ≤ length us
 index_le [] v = omega arith
 index_le (u ∷ us) v = let h = index_le us v in grind arith
+
+-- where v stands, or how long the list is
+pub index_position : (us : List ℕ) (v : ℕ) → unwrap_or (position (λ u. eqb u v) us) (length us) ≡ index us v
+index_position us v =
+    let e : position_or_len (λ u. eqb u v) us ≡ index us v = sym (is_position_or_len (λ ws. index ws v) (λ u. eqb u v) refl (λ u ws. ap (λ n. cond (eqb u v) 0 n) (omega arith)) us) in
+    let l = index_le us v in
+    grind (arith, common_steps)
 
 -- what stands in a list stands there still in a longer one
 pub index_append : (us ws : List ℕ) (v : ℕ) → Listed us v → index (us ++ ws) v ≡ index us v

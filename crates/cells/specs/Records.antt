@@ -3,7 +3,6 @@ use Rattle.std.specs.Prelude.{◌≡◌, ℕ, List, take, Ok, Err, Result}
 use Rattle.refusals.specs.declared.CellFault.{CellFault}
 use Rattle.refusals.specs.declared.RuleFault.{RuleFault}
 use Rattle.cells.specs.declared.row.Row.{Row}
-use Rattle.cells.specs.declared.names.Names.{Names}
 use Rattle.cells.specs.declared.rule.Rule.{Rule}
 use Rattle.cells.specs.Checks.{CheckedRow, RowFault}
 use Rattle.cells.specs.Rules.{Sides, sides, numbered, GoodLeft, LeftFault, GoodSides, SidesFault}
@@ -11,9 +10,6 @@ use Rattle.cells.specs.Rules.{Sides, sides, numbered, GoodLeft, LeftFault, GoodS
 -- the words of a checked row
 abbrev pub row_words : {N : ℕ} → Row N → List ℕ
 row_words x = take x.count x.cells
-
-abbrev pub names_list : {N : ℕ} → Names N → List ℕ
-names_list x = take x.count x.numbers
 
 abbrev pub rule_sides : Rule → Sides
 rule_sides x = sides (row_words x.left) (row_words x.right)

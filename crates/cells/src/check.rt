@@ -11,52 +11,43 @@ use refusals::CellFault;
 fn find_bad(cells: &[u32]) -> Option<usize>
     ensures { MatchOption result (AllCells cells.now) (λ p. FirstBad cells.now p) }
 {
-    for (i, w) in cells.iter().enumerate() {
-        if !is_cell(*w) {
-            return Some(i);
-        }
-    }
-    None
+    cells.iter().position(|w| !is_cell(*w))
 }
 
 // Where the whole row that begins at `at` ends, if one begins there.
 pub fn term_end(cells: &[u32], at: usize) -> Option<usize>
     ensures { Ends cells.now at result }
 {
-    if at >= cells.len() {
-        return None;
-    }
+    let rest = cells.get(at..)?;
     // how many rows are still to come; the cells left must be as many
     let mut need = 1;
-    let mut end = at;
-    while need > 0 {
-        let more = arity_of(cells[end]);
-        if more > cells.len() - end - need {
+    for (i, w) in rest.iter().enumerate() {
+        need = need - 1 + arity_of(*w);
+        if need == 0 {
+            return Some(at + i + 1);
+        }
+        if need > rest.len() - (i + 1) {
             return None;
         }
-        need = need - 1 + more;
-        end += 1;
     }
-    Some(end)
+    None
 }
 
 // Whether the words are one whole row of 1 to `limit` cells, and if not, why.
 pub fn check_row(cells: &[u32], limit: usize) -> Result<(), CellFault>
     ensures { RowAnswer limit cells.now result }
 {
-    if cells.len() == 0 || cells.len() > limit {
+    if cells.is_empty() || cells.len() > limit {
         return Err(CellFault::Length(cells.len()));
     }
     if let Some(p) = find_bad(cells) {
         return Err(CellFault::NoCell(p));
     }
-    match term_end(cells, 0) {
-        None => Err(CellFault::EndsEarly(cells.len())),
-        Some(end) => {
-            if end < cells.len() {
-                return Err(CellFault::LeftOver(end));
-            }
-            Ok(())
-        }
+    let Some(end) = term_end(cells, 0) else {
+        return Err(CellFault::EndsEarly(cells.len()));
+    };
+    if end < cells.len() {
+        return Err(CellFault::LeftOver(end));
     }
+    Ok(())
 }

@@ -14,9 +14,7 @@ fn hold<const N: usize>(cells: &[u32]) -> [u32; N]
     ensures { take (length cells.now) result ≡ cells.now }
 {
     let mut held = [0; N];
-    for (i, w) in cells.iter().enumerate() {
-        held[i] = *w;
-    }
+    held[..cells.len()].copy_from_slice(cells);
     held
 }
 
@@ -37,7 +35,6 @@ impl<const N: usize> Row<N> {
         ensures good { AllCells result.now }
         ensures whole { Whole (row result.now) }
     {
-        let all = &self.cells[..];
-        &all[0..self.count]
+        &self.cells[..self.count]
     }
 }

@@ -1,14 +1,20 @@
 // Renaming the variables of a rule's side.
-ghost use Rattle.std.specs.Prelude.{◌≡◌, ◌≤◌, map, length};
+ghost use Rattle.std.specs.Prelude.{◌≡◌, ◌≤◌, ◌==◌, map, length, position};
 ghost use Rattle.cells.specs.Cells.{row, words};
 ghost use Rattle.cells.specs.Substitutions.{rename};
 ghost use Rattle.cells.specs.Variables.{index, renamed_word};
-ghost use Rattle.cells.specs.Records.{row_words, names_list};
+ghost use Rattle.cells.specs.Records.{row_words};
 
 use super::{Row, RuleSide};
-use crate::names::Names;
-use crate::names::calls::index_of;
 use crate::word::VARIABLE;
+use arrayvec::ArrayVec;
+
+// Where v stands in the list.
+fn place_of(list: &[u32], v: u32) -> Option<usize>
+    ensures { result ≡ position (λ u. u == v) list.now }
+{
+    list.iter().position(|u| *u == v)
+}
 
 // A variable by its place in the list.
 fn rename_word(w: u32, list: &[u32]) -> u32
@@ -16,7 +22,7 @@ fn rename_word(w: u32, list: &[u32]) -> u32
     ensures { result ≡ renamed_word (index list.now) w }
 {
     if w >= VARIABLE {
-        VARIABLE + index_of(list, w - VARIABLE) as u32
+        VARIABLE + place_of(list, w - VARIABLE).unwrap_or(list.len()) as u32
     } else {
         w
     }
@@ -33,12 +39,12 @@ fn rename_words(cells: &mut [u32], list: &[u32])
 
 impl RuleSide {
     // The row with each variable renamed to its place in the list.
-    pub(crate) fn renamed(&self, names: &Names<60>) -> RuleSide
-        ensures { row_words result ≡ words (rename (index (names_list names.now)) (row (row_words self.now))) }
+    pub(crate) fn renamed(&self, names: &ArrayVec<u32, 60>) -> RuleSide
+        ensures { row_words result ≡ words (rename (index names.now.items) (row (row_words self.now))) }
     {
         let mut cells = self.cells;
         let count = self.count;
-        rename_words(&mut cells[0..count], names.list());
+        rename_words(&mut cells[0..count], names);
         Row { cells, count }
     }
 }

@@ -5,6 +5,7 @@ ghost use Rattle.cells.specs.Rules.{Sides, sides, size, bare};
 ghost use Rattle.cells.specs.Records.{RowMade, LeftMade, RuleMade, rule_sides};
 
 use super::Rule;
+use crate::names::find_new;
 use crate::row::{Row, RuleSide};
 use crate::word::VARIABLE;
 use refusals::{RuleFault, Side, SideFault};
@@ -13,17 +14,14 @@ use refusals::{RuleFault, Side, SideFault};
 fn check_side(side: Side, cells: &[u32]) -> Result<RuleSide, SideFault>
     ensures { elim result [ Ok x ↦ RowMade 60 cells.now (Ok x) | Err f ↦ (f.side ≡ side) × RowMade 60 cells.now (Err f.fault) ] }
 {
-    match Row::new(cells) {
-        Ok(x) => Ok(x),
-        Err(fault) => Err(SideFault { side, fault }),
-    }
+    Row::new(cells).map_err(|fault| SideFault { side, fault })
 }
 
 // Whether the cells begin with a variable.
 fn is_bare(cells: &[u32]) -> bool
     ensures { result ≡ bare (row cells.now) }
 {
-    cells.len() > 0 && cells[0] >= VARIABLE
+    cells.first().is_some_and(|w| *w >= VARIABLE)
 }
 
 // A left side that is no bare variable, or why it is refused.
@@ -45,7 +43,7 @@ impl Rule {
         let from = check_left(left)?;
         let to = check_side(Side::Right, right)?;
         let names = from.names();
-        if let Some(place) = names.find_new(to.cells()) {
+        if let Some(place) = find_new(&names, to.cells()) {
             return Err(RuleFault::NewVariable(place));
         }
         Ok(Rule {

@@ -1,16 +1,17 @@
-use Rattle.std.proofs.Common.{◌≡◌, ap, ◌∙◌, subst}
+use Rattle.std.proofs.Common.{◌≡◌, sym, ap, ◌∙◌, subst}
 use Rattle.cells.specs.Cells.{row, words}
 use Rattle.cells.specs.Substitutions.{rename}
 use Rattle.cells.specs.Variables.{index, Listed, variables}
 use Rattle.cells.specs.Rules.{sides, GoodSides, FirstWithout, Each, rule_ok, numbered}
-use Rattle.cells.specs.Records.{row_words, names_list}
+use Rattle.cells.specs.Records.{row_words}
 use Rattle.cells.proofs.Variants.{variable_laws}
+use Rattle.cells.proofs.Lacking.{found_new, found_none}
 use Rattle.cells.proofs.Ruling.{rule_laws}
 use Rattle.cells.proofs.rule.Rule.new.Goals as goal
 use Rattle.cells.proofs.rule.Rule.new.Goals.{After-find_new, After-renamed-2}
 
 -- the names are the left side's variables
-names : (c : After-find_new) → names_list c.names-names.result ≡ variables (row c.args.left.now)
+names : (c : After-find_new) → c.names-names.result.items ≡ variables (row c.args.left.now)
 names c = c.names-names.ensures ∙ ap (λ z. variables (row z)) c.in_ok-from.ensures.1
 
 pub returns-in-Some : goal.returns-in-Some
@@ -19,7 +20,7 @@ returns-in-Some c =
     let l = row c.args.left.now in
     let f : FirstWithout (Listed (variables l)) (row c.args.right.now) c.in-Some.place =
     subst (λ z. FirstWithout (Listed (variables l)) (row z) c.in-Some.place) (c.cells.ensures.value ∙ c.in_ok-to.ensures.1)
-    (subst (λ us. FirstWithout (Listed us) (row c.cells.result.now) c.in-Some.place) (names a) c.in-Some.ensures) in (
+    (subst (λ us. FirstWithout (Listed us) (row c.cells.result.now) c.in-Some.place) (c.deref.ensures.0 ∙ names a) (found_new c.deref.result.now c.cells.result.now c.in-Some.place (sym c.in-Some.ensures))) in (
       c.in_ok-from.ensures.0,
       c.in_ok-to.ensures.0,
       record {
@@ -35,7 +36,7 @@ good c right =
     let a = (goal.at.After-renamed-2 c).After-find_new in
     let l = row c.args.left.now in
     let e : Each (Listed (variables l)) (row c.args.right.now) =
-    subst (λ z. Each (Listed (variables l)) (row z)) right (subst (λ us. Each (Listed us) (row c.cells.result.now)) (names a) c.in_default.ensures) in
+    subst (λ z. Each (Listed (variables l)) (row z)) right (subst (λ us. Each (Listed us) (row c.cells.result.now)) (c.deref.ensures.0 ∙ names a) (found_none c.deref.result.now c.cells.result.now (sym c.in_default.ensures))) in
     record { left = c.in_ok-from.ensures.0; right = c.in_ok-to.ensures.0; covered = λ k v s. (variable_laws.listed l v).1 (e k v s) }
 
 -- both sides are renamed by the left side's variables

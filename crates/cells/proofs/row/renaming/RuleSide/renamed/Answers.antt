@@ -1,10 +1,9 @@
 use Rattle.std.proofs.Common.{◌≡◌, ℕ, zero, suc, ◌-◌, List, [], ◌∷◌, ◌++◌, map, length, take, drop, sym, refl, ap, ◌∙◌, subst, arith}
 use native.Mathlib.Nat.{sub-zero}
-use Rattle.std.proofs.lemmas.List.{length-take}
 use Rattle.cells.specs.Cells.{AllCells, row}
 use Rattle.cells.specs.Rows.{Whole}
 use Rattle.cells.specs.Variables.{index, renamed_word}
-use Rattle.cells.specs.Records.{row_words, names_list}
+use Rattle.cells.specs.Records.{row_words}
 use Rattle.cells.proofs.Listing.{index_le}
 use Rattle.cells.proofs.Renamed.{words_rename, renamed_whole, renamed_cells}
 use Rattle.cells.proofs.row.renaming.RuleSide.renamed.Goals as goal
@@ -20,18 +19,16 @@ front us vs ws now n p q = let z = sub-zero n in let e = take_over (renamed_word
 
 pub rename_words-requires : goal.rename_words-requires
 rename_words-requires c =
-    let n = c.args.names.now in
-    let e = ap length c.list.ensures in
-    omega (arith, n.fits, length-take n.count n.numbers)
+    c.deref.ensures.1
 
 pub invariant_of-result : goal.invariant_of-result
 invariant_of-result c =
     let n = c.args.names.now in
     let x = c.args.self.now in
-    let ρ = index (names_list n) in
-    let e = front c.list.result.now (names_list n) x.cells c.rename_words.new.cells x.count c.list.ensures c.rename_words.ensures in record {
+    let ρ = index n.items in
+    let e = front c.deref.result.now n.items x.cells c.rename_words.new.cells x.count c.deref.ensures.0 c.rename_words.ensures in record {
       fits = x.fits;
-      good = subst AllCells (sym e) (renamed_cells ρ (row_words x) (λ v. omega (arith, n.fits, length-take n.count n.numbers, index_le (names_list n) v)) x.good);
+      good = subst AllCells (sym e) (renamed_cells ρ (row_words x) (λ v. omega (arith, ap length c.deref.ensures.0, c.deref.ensures.1, index_le n.items v)) x.good);
       whole = subst (λ ws. Whole (row ws)) (sym e) (renamed_whole ρ (row_words x) x.whole);
     }
 
@@ -39,5 +36,5 @@ pub returns : goal.returns
 returns c =
     let n = c.args.names.now in
     let x = c.args.self.now in
-    front c.list.result.now (names_list n) x.cells c.rename_words.new.cells x.count c.list.ensures c.rename_words.ensures
-    ∙ sym (words_rename (index (names_list n)) (row_words x))
+    front c.deref.result.now n.items x.cells c.rename_words.new.cells x.count c.deref.ensures.0 c.rename_words.ensures
+    ∙ sym (words_rename (index n.items) (row_words x))
