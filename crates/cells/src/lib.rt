@@ -5,12 +5,13 @@ mod check;
 mod names;
 mod row;
 mod rule;
+mod side;
 mod theorems;
 mod word;
 
 pub use check::{check_row, term_end};
 pub use row::{Formula, Row, RuleSide};
 pub use rule::Rule;
-pub use rule::calls::check_left;
+pub use side::check_left;
 pub use theorems::laws;
 pub use word::{FormulaVar, RuleVar, TreeVar, VARIABLE, arity_of, is_cell};
