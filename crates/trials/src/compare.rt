@@ -1,80 +1,69 @@
-// Comparing the two matchers on a pair.
-use crate::naive::{Part, part_for, solve};
-use crate::relation::Relation;
+// Comparing the library with the naive matcher on a pair.
+use crate::naive::{Part, matched, part_for, same_shape};
 use crate::rows::Pair;
+use crate::unify::unify;
 use crate::word::VARIABLE;
-use cells::{Formula, FormulaVar, RuleSide, RuleVar};
-use matching::{Asked, Found, binding, is_general, is_instance, is_variant};
+use matching::{Asked, Found, Relation, binding, check_pair, is_general, is_instance, is_variant};
 use std::alloc::{AllocError, Global};
+use unification::is_unifiable;
 
 // Bindings are asked for of the variables below this: of the four that rows can have, and of one that none has.
 const ASKED: u32 = 5;
 
-// What comes of a pair: whether the relation holds, how many of the variables are bound, and whether the matchers agree.
+// What comes of a pair: how many variables are bound, if the relation holds, and whether the library agrees.
 #[derive(Clone, Copy)]
 pub struct Finding {
-    pub holds: bool,
-    pub bound: u64,
+    pub bound: Option<usize>,
     pub agree: bool,
+}
+
+// What the naive code puts for the variables, if the relation holds. Unifiable binds none.
+fn solve<'a>(
+    heap: Global,
+    relation: Relation,
+    left: &'a [u32],
+    formula: &'a [u32],
+) -> Result<Option<Vec<Part<'a>>>, AllocError> {
+    match relation {
+        Relation::General => matched(heap, left, formula),
+        Relation::Instance => matched(heap, formula, left),
+        Relation::Variant if same_shape(left, formula) => matched(heap, left, formula),
+        Relation::Variant => Ok(None),
+        Relation::Unifiable => Ok(unify(heap, left, formula)?.map(|_| Vec::new(heap))),
+    }
 }
 
 // Whether the library says that the relation holds; none if it refuses a row.
 fn decide(relation: Relation, left: &[u32], formula: &[u32]) -> Option<bool> {
-    let left = RuleSide::new(left).ok()?;
-    let formula = Formula::new(formula).ok()?;
+    let pair = check_pair(left, formula).ok()?;
     Some(match relation {
-        Relation::General => is_general(&left, &formula),
-        Relation::Instance => is_instance(&left, &formula),
-        Relation::Variant => is_variant(&left, &formula),
+        Relation::General => is_general(&pair.left, &pair.formula),
+        Relation::Instance => is_instance(&pair.left, &pair.formula),
+        Relation::Variant => is_variant(&pair.left, &pair.formula),
+        Relation::Unifiable => is_unifiable(&pair.left, &pair.formula),
     })
 }
 
-fn asked(relation: Relation, v: u32) -> Asked {
-    match relation {
-        Relation::General => Asked::General(RuleVar(v)),
-        Relation::Instance => Asked::Instance(FormulaVar(v)),
-        Relation::Variant => Asked::Variant(RuleVar(v)),
-    }
+// Whether the library found the part.
+fn same_part(found: Option<Found<'_>>, part: Option<Part<'_>>) -> bool {
+    found.map(|found| (found.at, found.cells)) == part.map(|part| (part.at, part.cells))
 }
 
-// Whether the library found the part of the target.
-fn same_part(found: Option<Found<'_>>, part: Option<Part>, target: &[u32]) -> bool {
-    match (found, part) {
-        (None, None) => true,
-        (Some(found), Some(part)) => {
-            found.at == part.at && target.get(part.at..part.end) == Some(found.cells)
-        }
-        _ => false,
-    }
-}
-
-// Asks both matchers.
+// Asks the naive code and the library.
 pub fn compare(heap: Global, relation: Relation, pair: &Pair) -> Result<Finding, AllocError> {
     let left = pair.left.as_slice();
     let formula = pair.formula.as_slice();
-    let (pattern, target) = match relation {
-        Relation::Instance => (formula, left),
-        Relation::General | Relation::Variant => (left, formula),
-    };
-    let solved = solve(heap, relation, pattern, target)?;
-    let holds = solved.is_some();
-    let parts = solved.unwrap_or(Vec::new(heap));
-    let mut bound: u64 = 0;
-    let mut agree = decide(relation, left, formula) == Some(holds);
-    for v in 0..ASKED {
-        let part = part_for(VARIABLE + v, pattern, parts.as_slice());
-        if part.is_some() {
-            bound = bound.saturating_add(1);
-        }
-        agree = agree
-            && match binding(asked(relation, v), left, formula) {
-                Ok(found) => same_part(found, part, target),
-                Err(_) => false,
-            };
-    }
+    let solved = solve(heap, relation, left, formula)?;
+    let parts = solved.as_deref().unwrap_or(&[]);
+    let agree = decide(relation, left, formula) == Some(solved.is_some())
+        && (0..ASKED).all(|v| {
+            let part = part_for(parts, VARIABLE + v);
+            binding(Asked::new(relation, v), left, formula).is_ok_and(|found| same_part(
+                found, part,
+            ))
+        });
     Ok(Finding {
-        holds,
-        bound,
+        bound: solved.map(|parts| parts.len()),
         agree,
     })
 }

@@ -1,20 +1,20 @@
-// The second matcher: it guesses what stands for each cell of the pattern, and then writes the pattern out to see.
+// The second matcher: it guesses what stands for each variable of the pattern, and then writes the pattern out to see.
 // It shares no code with the library.
 ghost use Rattle.std.specs.Prelude.{◌<◌, IfSome};
 
-use crate::relation::Relation;
-use crate::word::{VARIABLE, arity};
+use crate::word::{VARIABLE, arity, substituted};
 use std::alloc::{AllocError, Global};
 
-// A part of a row, up to the position `end`.
+// What stands in the target for a variable, with its position.
 #[derive(Clone, Copy)]
-pub struct Part {
+pub struct Part<'a> {
+    pub variable: u32,
     pub at: usize,
-    pub end: usize,
+    pub cells: &'a [u32],
 }
 
 // Where the row that begins at `at` ends: it is a cell, and then as many rows as that asks for.
-pub fn end_of(cells: &[u32], at: usize) -> Option<usize>
+fn end_of(cells: &[u32], at: usize) -> Option<usize>
     ensures { IfSome result (λ end. at < end) }
 {
     let cell = cells.get(at)?;
@@ -25,86 +25,71 @@ pub fn end_of(cells: &[u32], at: usize) -> Option<usize>
     Some(next)
 }
 
-// Where the cell stands first.
-pub fn first_place(cells: &[u32], cell: u32) -> Option<usize> {
-    for (i, w) in cells.iter().enumerate() {
-        if *w == cell {
-            return Some(i);
-        }
-    }
-    None
+// The row that begins at `at`.
+pub fn row_at(cells: &[u32], at: usize) -> Option<&[u32]> {
+    cells.get(at..end_of(cells, at)?)
 }
 
-// The parts of the target that stand for the cells of the pattern, as far as the target goes.
-fn align(heap: Global, pattern: &[u32], target: &[u32]) -> Result<Vec<Part>, AllocError> {
+// The part for the variable.
+pub fn part_for<'a>(parts: &[Part<'a>], variable: u32) -> Option<Part<'a>> {
+    parts.iter().find(|part| part.variable == variable).copied()
+}
+
+// What stands in the target for each variable where the pattern has it first, as far as the target goes.
+fn align<'a>(
+    heap: Global,
+    pattern: &[u32],
+    target: &'a [u32],
+) -> Result<Vec<Part<'a>>, AllocError> {
     let mut parts = Vec::new(heap);
     let mut at: usize = 0;
     for cell in pattern {
-        let mut end = at.saturating_add(1);
-        if *cell >= VARIABLE {
-            let Some(past) = end_of(target, at) else {
-                break;
-            };
-            end = past;
+        if *cell < VARIABLE {
+            at = at.saturating_add(1);
+            continue;
         }
-        parts.push(Part { at, end })?;
-        at = end;
+        let variable = *cell;
+        let Some(cells) = row_at(target, at) else {
+            break;
+        };
+        if part_for(parts.as_slice(), variable).is_none() {
+            parts.push(Part {
+                variable,
+                at,
+                cells,
+            })?;
+        }
+        at = at.saturating_add(cells.len());
     }
     Ok(parts)
 }
 
-// The part that stands for the cell where the pattern has it first.
-pub fn part_for(cell: u32, pattern: &[u32], parts: &[Part]) -> Option<Part> {
-    let k = first_place(pattern, cell)?;
-    parts.get(k).copied()
-}
-
-// The pattern with parts of the target in place of its variables.
-fn written(
+// What stands for the variables of the pattern, if the pattern written out with it is the target.
+pub fn matched<'a>(
     heap: Global,
     pattern: &[u32],
-    parts: &[Part],
-    target: &[u32],
-) -> Result<Vec<u32>, AllocError> {
-    let mut row = Vec::new(heap);
-    for cell in pattern {
-        if *cell < VARIABLE {
-            row.push(*cell)?;
-        } else if let Some(part) = part_for(*cell, pattern, parts) {
-            row.extend_from_slice(target.get(part.at..part.end).unwrap_or(&[]))?;
-        }
-    }
-    Ok(row)
+    target: &'a [u32],
+) -> Result<Option<Vec<Part<'a>>>, AllocError> {
+    let parts = align(heap, pattern, target)?;
+    let written = substituted(heap, pattern, |cell| {
+        part_for(parts.as_slice(), cell).map(|part| part.cells)
+    })?;
+    Ok((written.as_slice() == target).then_some(parts))
+}
+
+// Where the cell stands first.
+fn first_place(cells: &[u32], cell: u32) -> Option<usize> {
+    cells.iter().position(|other| *other == cell)
 }
 
 // Whether the rows are the same but for the names of their variables: a variable stands against one that has its first place.
-fn same_shape(left: &[u32], right: &[u32]) -> bool {
-    for (a, b) in left.iter().zip(right) {
-        let same = if *a < VARIABLE {
-            a == b
-        } else {
-            *b >= VARIABLE && first_place(left, *a) == first_place(right, *b)
-        };
-        if !same {
-            return false;
-        }
-    }
+pub fn same_shape(left: &[u32], right: &[u32]) -> bool {
     left.len() == right.len()
-}
-
-// What stands for each cell of the pattern, if the relation holds.
-pub fn solve(
-    heap: Global,
-    relation: Relation,
-    pattern: &[u32],
-    target: &[u32],
-) -> Result<Option<Vec<Part>>, AllocError> {
-    let parts = align(heap, pattern, target)?;
-    let holds = match relation {
-        Relation::Variant => same_shape(pattern, target),
-        Relation::General | Relation::Instance => {
-            written(heap, pattern, parts.as_slice(), target)?.as_slice() == target
-        }
-    };
-    Ok(if holds { Some(parts) } else { None })
+        && left.iter().zip(right).all(|(a, b)| {
+            if *a < VARIABLE {
+                a == b
+            } else {
+                *b >= VARIABLE && first_place(left, *a) == first_place(right, *b)
+            }
+        })
 }

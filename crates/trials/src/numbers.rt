@@ -13,7 +13,7 @@ impl Numbers {
     }
 
     // The next number, below n. The low bits of the state are poor, so they are left out.
-    pub fn below(&mut self, n: usize) -> usize
+    pub fn below(&mut self, n: u32) -> u32
         requires { 0 < n }
         ensures { result < n }
     {
@@ -21,6 +21,6 @@ impl Numbers {
             .state
             .wrapping_mul(6364136223846793005)
             .wrapping_add(1442695040888963407);
-        (self.state >> 33) as usize % n
+        (self.state >> 33) as u32 % n
     }
 }

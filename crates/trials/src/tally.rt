@@ -2,30 +2,25 @@
 use crate::compare::Finding;
 use std::fmt;
 
-#[derive(Clone, Copy)]
+#[derive(Clone, Copy, Default)]
 pub struct Tally {
-    pairs: u64,
-    hold: u64,
-    bound: u64,
-    pub differences: u64,
+    pairs: usize,
+    hold: usize,
+    bound: usize,
+    pub differences: usize,
 }
 
 impl Tally {
-    pub fn new() -> Tally {
-        Tally {
-            pairs: 0,
-            hold: 0,
-            bound: 0,
-            differences: 0,
-        }
-    }
-
     // Counts a pair. A full count stays.
     pub fn count(&mut self, finding: Finding) {
         self.pairs = self.pairs.saturating_add(1);
-        self.hold = self.hold.saturating_add(u64::from(finding.holds));
-        self.bound = self.bound.saturating_add(finding.bound);
-        self.differences = self.differences.saturating_add(u64::from(!finding.agree));
+        if let Some(bound) = finding.bound {
+            self.hold = self.hold.saturating_add(1);
+            self.bound = self.bound.saturating_add(bound);
+        }
+        if !finding.agree {
+            self.differences = self.differences.saturating_add(1);
+        }
     }
 }
 
