@@ -51,16 +51,14 @@ fn same_part(found: Option<Found<'_>>, part: Option<Part<'_>>) -> bool {
 
 // Asks the naive code and the library.
 pub fn compare(heap: Global, relation: Relation, pair: &Pair) -> Result<Finding, AllocError> {
-    let left = pair.left.as_slice();
-    let formula = pair.formula.as_slice();
+    let (left, formula) = pair.sides();
     let solved = solve(heap, relation, left, formula)?;
     let parts = solved.as_deref().unwrap_or(&[]);
     let agree = decide(relation, left, formula) == Some(solved.is_some())
         && (0..ASKED).all(|v| {
             let part = part_for(parts, VARIABLE + v);
-            binding(Asked::new(relation, v), left, formula).is_ok_and(|found| same_part(
-                found, part,
-            ))
+            let found = binding(Asked::new(relation, v), left, formula);
+            found.is_ok_and(|found| same_part(found, part))
         });
     Ok(Finding {
         bound: solved.map(|parts| parts.len()),

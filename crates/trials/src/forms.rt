@@ -33,14 +33,12 @@ fn same_form(answer: Result<Option<usize>, FormFault>, form: Option<&[u32]>, out
 // Compares unifiable as a relation, which has no bindings, and then the common form.
 pub fn compare_forms(heap: Global, pair: &Pair) -> Result<Finding, AllocError> {
     let Finding { bound, agree } = compare(heap, Relation::Unifiable, pair)?;
-    let left = pair.left.as_slice();
-    let formula = pair.formula.as_slice();
+    let (left, formula) = pair.sides();
     let form = unify(heap, left, formula)?;
     let mut out = [KEPT; ROOM];
     let answer = write_common_form(left, formula, &mut out);
-    let form = form.as_deref();
     Ok(Finding {
         bound,
-        agree: agree && same_form(answer, form, &out),
+        agree: agree && same_form(answer, form.as_deref(), &out),
     })
 }

@@ -70,17 +70,13 @@ fn try_forms(rt: &HostRuntime) -> anyhow::Result<usize> {
 }
 
 // The relations that bind variables, or with the word `forms` unification.
-fn run(rt: &HostRuntime) -> anyhow::Result<()> {
-    let word = env::args(rt)?.nth(1);
+fn main(rt: HostRuntime) -> anyhow::Result<()> {
+    let word = env::args(&rt)?.nth(1);
     let differences = if word.is_some_and(|word| word.as_str() == "forms") {
-        try_forms(rt)?
+        try_forms(&rt)?
     } else {
-        try_relations(rt)?
+        try_relations(&rt)?
     };
     println!(rt; "{differences} differences")?;
     Ok(())
-}
-
-fn main(rt: HostRuntime) -> anyhow::Result<()> {
-    run(&rt)
 }

@@ -21,6 +21,12 @@ pub struct Pair {
     pub formula: Vec<u32>,
 }
 
+impl Pair {
+    pub fn sides(&self) -> (&[u32], &[u32]) {
+        (self.left.as_slice(), self.formula.as_slice())
+    }
+}
+
 // Cells as they are printed.
 #[derive(Clone, Copy)]
 struct CellsText<'a>(&'a [u32]);
@@ -36,9 +42,8 @@ impl fmt::Display for CellsText<'_> {
 
 impl fmt::Display for Pair {
     fn fmt<W: fmt::Write>(&self, f: &mut fmt::Formatter<W>) -> fmt::Result {
-        let left = CellsText(self.left.as_slice());
-        let formula = CellsText(self.formula.as_slice());
-        write!(f, "{left} |{formula}")
+        let (left, formula) = self.sides();
+        write!(f, "{} |{}", CellsText(left), CellsText(formula))
     }
 }
 
@@ -92,7 +97,7 @@ fn random_instance(
     let images = images.as_slice();
     substituted(heap, row, move |cell| {
         let variable = cell.checked_sub(VARIABLE)?;
-        images.get(variable as usize).map(|image| image.as_slice())
+        Some(images.get(variable as usize)?.as_slice())
     })
 }
 
@@ -103,11 +108,7 @@ fn random_variant(
     numbers: &mut Numbers,
 ) -> Result<Vec<u32>, AllocError> {
     let shift = numbers.below(4);
-    renamed(
-        heap,
-        row,
-        |variable| VARIABLE + variable.wrapping_add(shift) % 4,
-    )
+    renamed(heap, row, |cell| VARIABLE + cell.wrapping_add(shift) % 4)
 }
 
 // The row with variables, alone or under a symbol with one argument, in place of most of its constants and variables. It stays no bare variable.

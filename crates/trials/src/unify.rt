@@ -1,6 +1,7 @@
 // The second unifier: where the rows differ first, it puts what stands in one for the variable in the other, in both rows written out, until they are the same.
 // It shares no code with the library.
 use crate::naive::row_at;
+use crate::rows::Pair;
 use crate::word::{VARIABLE, renamed, substituted};
 use std::alloc::{AllocError, Global};
 
@@ -31,8 +32,8 @@ fn numbered(heap: Global, row: &[u32]) -> Result<Vec<u32>, AllocError> {
         }
     }
     renamed(heap, row, |variable| {
-        let mut numbers = (VARIABLE..).zip(names.iter());
-        numbers
+        (VARIABLE..)
+            .zip(names.iter())
             .find(|(_, name)| **name == variable)
             .map_or(variable, |(number, _)| number)
     })
@@ -40,11 +41,12 @@ fn numbered(heap: Global, row: &[u32]) -> Result<Vec<u32>, AllocError> {
 
 // The common form of the rows, of whatever size, if there is one.
 pub fn unify(heap: Global, left: &[u32], formula: &[u32]) -> Result<Option<Vec<u32>>, AllocError> {
-    let mut left = renamed(heap, left, |variable| variable.saturating_add(APART))?;
-    let mut formula = Vec::from_slice(heap, formula)?;
+    let mut pair = Pair {
+        left: renamed(heap, left, |variable| variable.saturating_add(APART))?,
+        formula: Vec::from_slice(heap, formula)?,
+    };
     for _ in 0..ROUNDS {
-        let one = left.as_slice();
-        let other = formula.as_slice();
+        let (one, other) = pair.sides();
         let Some(at) = first_difference(one, other) else {
             return Ok(Some(numbered(heap, one)?));
         };
@@ -53,9 +55,10 @@ pub fn unify(heap: Global, left: &[u32], formula: &[u32]) -> Result<Option<Vec<u
             return Ok(None);
         };
         let put = |cell: u32| (cell == variable).then_some(image);
-        let next = substituted(heap, one, put)?;
-        formula = substituted(heap, other, put)?;
-        left = next;
+        pair = Pair {
+            left: substituted(heap, one, put)?,
+            formula: substituted(heap, other, put)?,
+        };
     }
     Ok(None)
 }
