@@ -1,5 +1,5 @@
 // Comparing the library with the naive matcher on a pair.
-use crate::naive::{Part, matched, part_for, same_shape};
+use crate::naive::{Part, align, matched, part_for, same_shape};
 use crate::rows::Pair;
 use crate::unify::unify;
 use crate::word::VARIABLE;
@@ -27,7 +27,7 @@ fn solve<'a>(
     match relation {
         Relation::General => matched(heap, left, formula),
         Relation::Instance => matched(heap, formula, left),
-        Relation::Variant if same_shape(left, formula) => matched(heap, left, formula),
+        Relation::Variant if same_shape(left, formula) => Ok(Some(align(heap, left, formula)?)),
         Relation::Variant => Ok(None),
         Relation::Unifiable => Ok(unify(heap, left, formula)?.map(|_| Vec::new(heap))),
     }

@@ -36,7 +36,7 @@ pub fn part_for<'a>(parts: &[Part<'a>], variable: u32) -> Option<Part<'a>> {
 }
 
 // What stands in the target for each variable where the pattern has it first, as far as the target goes.
-fn align<'a>(
+pub fn align<'a>(
     heap: Global,
     pattern: &[u32],
     target: &'a [u32],
