@@ -27,7 +27,7 @@ const PAIRS: u32 = 4096;
 // How many differences of one kind are shown.
 const SHOWN: usize = 3;
 
-// Compares on pairs that are made one after another, and answers how many differences there are.
+// Compares on pairs that are made one after another, prints what comes of them, and answers how many differences there are.
 fn try_pairs<N, M, C>(rt: &HostRuntime, name: N, make: M, compare: C) -> anyhow::Result<usize>
 where
     N: fmt::Display + Copy,

@@ -43,18 +43,17 @@ pub fn align<'a>(
 ) -> Result<Vec<Part<'a>>, AllocError> {
     let mut parts = Vec::new(heap);
     let mut at: usize = 0;
-    for cell in pattern {
-        if *cell < VARIABLE {
+    for &cell in pattern {
+        if cell < VARIABLE {
             at = at.saturating_add(1);
             continue;
         }
-        let variable = *cell;
         let Some(cells) = row_at(target, at) else {
             break;
         };
-        if part_for(parts.as_slice(), variable).is_none() {
+        if part_for(parts.as_slice(), cell).is_none() {
             parts.push(Part {
-                variable,
+                variable: cell,
                 at,
                 cells,
             })?;

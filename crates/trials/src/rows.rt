@@ -119,17 +119,16 @@ fn random_overlap(
     numbers: &mut Numbers,
 ) -> Result<Vec<u32>, AllocError> {
     let mut cells = Vec::new(heap);
-    for (i, cell) in row.iter().enumerate() {
+    for (i, &cell) in row.iter().enumerate() {
         let kind = numbers.below(4);
         let variable = VARIABLE + numbers.below(VARIABLES);
-        if i == 0 || arity(*cell) > 0 || kind == 0 {
-            cells.push(*cell)?;
-            continue;
+        if i == 0 || arity(cell) > 0 || kind == 0 {
+            cells.push(cell)?;
+        } else if kind == 1 {
+            cells.extend_from_slice(&[ARGUMENT, variable])?;
+        } else {
+            cells.push(variable)?;
         }
-        if kind == 1 {
-            cells.push(ARGUMENT)?;
-        }
-        cells.push(variable)?;
     }
     Ok(cells)
 }

@@ -16,7 +16,7 @@ fn first_difference(one: &[u32], other: &[u32]) -> Option<usize> {
     one.iter().zip(other).position(|(a, b)| a != b)
 }
 
-// The variable that the row has there, and what the other row has for it; none if the variable stands inside that.
+// The variable that the row has there, and what the other row has in its place; none if it is no variable, or stands inside that.
 fn step_from<'a>(row: &[u32], other: &'a [u32], at: usize) -> Option<(u32, &'a [u32])> {
     let variable = *row.get(at)?;
     let image = row_at(other, at)?;

@@ -16,12 +16,12 @@ pub fn arity(cell: u32) -> u32 {
 pub fn renamed<F: Fn(u32) -> u32>(
     heap: Global,
     row: &[u32],
-    name: F,
+    rename: F,
 ) -> Result<Vec<u32>, AllocError>
-    requires { F.IsAlwaysCallable name }
+    requires { F.IsAlwaysCallable rename }
 {
     row.iter()
-        .map(|cell| if *cell < VARIABLE { *cell } else { name(*cell) })
+        .map(|&cell| if cell < VARIABLE { cell } else { rename(cell) })
         .collect(heap)
 }
 
@@ -34,10 +34,10 @@ pub fn substituted<'a, F: Fn(u32) -> Option<&'a [u32]>>(
     requires { F.IsAlwaysCallable image }
 {
     let mut cells = Vec::new(heap);
-    for cell in row {
-        match image(*cell) {
+    for &cell in row {
+        match image(cell) {
             Some(image) => cells.extend_from_slice(image)?,
-            None => cells.push(*cell)?,
+            None => cells.push(cell)?,
         }
     }
     Ok(cells)
