@@ -1,4 +1,4 @@
-// Comparing the library with the naive matcher on a pair.
+// Comparing what the library and the naive code answer on a pair.
 use crate::naive::{Part, align, matched, part_for, same_shape};
 use crate::rows::Pair;
 use crate::unify::unify;
