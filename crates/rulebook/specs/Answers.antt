@@ -14,10 +14,6 @@ use Rattle.rulebook.specs.declared.answer.Answer.TheVariants.{Formula, Rule, Ref
 use Rattle.script.specs.declared.call.Call.{Call}
 use Rattle.script.specs.declared.call.Call.TheVariants.{CheckFormula, CheckRule, Relate, Bind, Common}
 use Rattle.script.specs.declared.call.BindCall.{BindCall}
-use Rattle.script.specs.declared.call.Relation.{Relation}
-use Rattle.script.specs.declared.call.Relation.TheVariants as named
-use Rattle.matching.specs.declared.finding.Asked.{Asked}
-use Rattle.matching.specs.declared.finding.Asked.TheVariants as asked
 use Rattle.matching.specs.declared.finding.Found.{Found}
 use Rattle.matching.specs.Relations.{General, Instance, Unifiable}
 use Rattle.matching.specs.Pairs.{GoodPair, PairFault}
@@ -91,18 +87,11 @@ RelateAnswer p (Part x) = ⊥
 RelateAnswer p (Form x) = ⊥
 RelateAnswer p Nothing = ⊥
 
--- the relation and the variable, of the kind that the relation asks for
-abbrev pub asked_for : Relation → ℕ → Asked
-asked_for named.General v = asked.General (record { 0 = v })
-asked_for named.Instance v = asked.Instance (record { 0 = v })
-asked_for named.Variant v = asked.Variant (record { 0 = v })
-asked_for named.Unifiable v = asked.Unifiable
-
 -- the part, or none, or why the rows are refused
 abbrev pub BindAnswer : BindCall → Answer → Type 0
-BindAnswer b (Part x) = (y : Found) × (x.at ≡ y.at) × (vec_items x.cells ≡ y.cells.now) × BindingAnswer (asked_for b.relation b.variable) (vec_items b.rows.left) (vec_items b.rows.right) (Ok (Some y))
-BindAnswer b Nothing = BindingAnswer (asked_for b.relation b.variable) (vec_items b.rows.left) (vec_items b.rows.right) (Ok None)
-BindAnswer b (PairRefused why) = BindingAnswer (asked_for b.relation b.variable) (vec_items b.rows.left) (vec_items b.rows.right) (Err why)
+BindAnswer b (Part x) = (y : Found) × (x.at ≡ y.at) × (vec_items x.cells ≡ y.cells.now) × BindingAnswer b.asked (vec_items b.rows.left) (vec_items b.rows.right) (Ok (Some y))
+BindAnswer b Nothing = BindingAnswer b.asked (vec_items b.rows.left) (vec_items b.rows.right) (Ok None)
+BindAnswer b (PairRefused why) = BindingAnswer b.asked (vec_items b.rows.left) (vec_items b.rows.right) (Err why)
 BindAnswer b (Formula size) = ⊥
 BindAnswer b (Rule x) = ⊥
 BindAnswer b (Refused why) = ⊥

@@ -2,12 +2,12 @@
 ghost use Rattle.std.specs.Prelude.{◌≡◌, IfOk};
 ghost use Rattle.cells.specs.Cells.{row};
 ghost use Rattle.cells.specs.Records.{row_words};
-ghost use Rattle.rulebook.specs.Answers.{FormulaAnswer, RuleAnswer, typed_sides, Holding, RelateAnswer, asked_for, BindAnswer, CommonAnswer, Answers};
+ghost use Rattle.rulebook.specs.Answers.{FormulaAnswer, RuleAnswer, typed_sides, Holding, RelateAnswer, BindAnswer, CommonAnswer, Answers};
 
 use crate::answer::{Answer, FormulaSize, Held, PartCells};
-use cells::{Formula, FormulaVar, Rule, RuleVar};
-use matching::{Asked, CheckedPair, binding, check_pair, is_general, is_instance, is_variant};
-use script::{BindCall, Call, Pair, Relation};
+use cells::{Formula, Rule};
+use matching::{CheckedPair, binding, check_pair, is_general, is_instance, is_variant};
+use script::{BindCall, Call, Pair};
 use std::alloc::{AllocError, Global};
 use unification::{FormFault, is_unifiable, write_common_form};
 
@@ -32,24 +32,12 @@ fn check_rule(sides: &Pair) -> Answer
     }
 }
 
-// The relation and the variable, of the kind that the relation asks for.
-fn asked(relation: Relation, v: u32) -> Asked
-    ensures { result ≡ asked_for relation v }
-{
-    match relation {
-        Relation::General => Asked::General(RuleVar(v)),
-        Relation::Instance => Asked::Instance(FormulaVar(v)),
-        Relation::Variant => Asked::Variant(RuleVar(v)),
-        Relation::Unifiable => Asked::Unifiable,
-    }
-}
-
 fn bind(heap: Global, call: &BindCall) -> Result<Answer, AllocError>
     ensures { IfOk result (λ a. BindAnswer call.now a) }
 {
     let left = call.rows.left.as_slice();
     let formula = call.rows.right.as_slice();
-    match binding(asked(call.relation, call.variable), left, formula) {
+    match binding(call.asked, left, formula) {
         Ok(Some(found)) => {
             let cells = Vec::from_slice(heap, found.cells)?;
             Ok(Answer::Part(PartCells {

@@ -1,4 +1,5 @@
 // The calls that a script can make.
+use matching::Asked;
 
 // Two rows, as they are typed: the sides of a rule, or a left side and a formula.
 #[derive(Drop)]
@@ -7,19 +8,10 @@ pub struct Pair {
     pub right: Vec<u32>,
 }
 
-#[derive(Clone, Copy)]
-pub enum Relation {
-    General,
-    Instance,
-    Variant,
-    Unifiable,
-}
-
-// The relation and the variable's number that a binding is asked for, and the rows.
+// What a binding is asked for, and the rows.
 #[derive(Drop)]
 pub struct BindCall {
-    pub relation: Relation,
-    pub variable: u32,
+    pub asked: Asked,
     pub rows: Pair,
 }
 

@@ -5,6 +5,6 @@ mod call;
 mod parse;
 mod trouble;
 
-pub use call::{BindCall, Call, Pair, Relation};
+pub use call::{BindCall, Call, Pair};
 pub use parse::parse_line;
 pub use trouble::{LineFault, Trouble};

@@ -2,10 +2,11 @@
 ghost use Rattle.std.specs.Prelude.{◌≡◌, ◌<◌, ◌≤◌, length, IfSome, IfOk, IfErr};
 ghost use Rattle.std.specs.Result.{result_ok};
 ghost use Rattle.script.specs.declared.trouble.LineFault.TheVariants.{NoNumber};
-ghost use Rattle.script.specs.Typed.{Reads, Typed, AllTyped};
+ghost use Rattle.script.specs.Typed.{Reads, Typed, AllTyped, AskedTyped};
 
-use crate::call::{BindCall, Call, Pair, Relation};
+use crate::call::{BindCall, Call, Pair};
 use crate::trouble::{LineFault, Trouble};
+use matching::{Asked, Relation};
 use std::alloc::Global;
 
 // What stands between the sides of a rule, and between a left side and a formula.
@@ -15,10 +16,7 @@ const BAR: &str = "|";
 
 // The line without its comment.
 fn before_comment(line: &str) -> &str {
-    match line.split_once('#') {
-        Some((code, _)) => code,
-        None => line,
-    }
+    line.split_once('#').map_or(line, |(code, _)| code)
 }
 
 // A number in digits of the radix, with no sign.
@@ -37,13 +35,10 @@ fn parse_digits(digits: &str, radix: u32) -> Option<u32>
 fn parse_number(word: &str) -> Option<u32>
     ensures { Typed word.now result }
 {
-    if let Some(digits) = word.strip_prefix("0x") {
-        return parse_digits(digits, 16);
+    match (word.strip_prefix("0x"), word.strip_prefix("0X")) {
+        (Some(digits), _) | (_, Some(digits)) => parse_digits(digits, 16),
+        _ => parse_digits(word, 10),
     }
-    if let Some(digits) = word.strip_prefix("0X") {
-        return parse_digits(digits, 16);
-    }
-    parse_digits(word, 10)
 }
 
 // The same as a cell of a line, which blames the word.
@@ -51,33 +46,17 @@ fn parse_cell(word: &str) -> Result<u32, LineFault<'_>>
     ensures value { Typed word.now (result_ok result) }
     ensures blames { IfErr result (λ f. f ≡ NoNumber word.entry) }
 {
-    match parse_number(word) {
-        Some(n) => Ok(n),
-        None => Err(LineFault::NoNumber(word)),
-    }
+    parse_number(word).ok_or(LineFault::NoNumber(word))
 }
 
 // A cell for each word, in order.
 fn parse_cells<'a>(heap: Global, words: &[&'a str]) -> Result<Vec<u32>, Trouble<'a>>
     ensures { IfOk result (λ v. AllTyped words.now v.items) }
 {
-    let mut cells = Vec::new(heap);
-    for word in words {
-        cells.push(parse_cell(word)?)?;
-    }
-    Ok(cells)
-}
-
-// Where the mark stands first.
-fn find_mark(words: &[&str], mark: &str) -> Option<usize>
-    ensures { IfSome result (λ i. i < length words.now) }
-{
-    for (i, word) in words.iter().enumerate() {
-        if *word == mark {
-            return Some(i);
-        }
-    }
-    None
+    words
+        .iter()
+        .map(|word| Ok(parse_cell(word)?))
+        .try_collect(heap)
 }
 
 // The rows before and after the mark.
@@ -86,69 +65,49 @@ fn parse_pair<'a>(
     words: &[&'a str],
     mark: &'static str,
 ) -> Result<Pair, Trouble<'a>> {
-    let Some(at) = find_mark(words, mark) else {
-        return Err(LineFault::NoMark(mark).into());
-    };
-    let behind = &words[at + 1..];
-    if find_mark(behind, mark).is_some() {
-        return Err(LineFault::SecondMark(mark).into());
-    }
-    let left = parse_cells(heap, &words[0..at])?;
-    let right = parse_cells(heap, behind)?;
-    Ok(Pair { left, right })
-}
-
-fn parse_relation(word: &str) -> Result<Relation, LineFault<'_>> {
-    match word {
-        "general" => Ok(Relation::General),
-        "instance" => Ok(Relation::Instance),
-        "variant" => Ok(Relation::Variant),
-        "unifiable" => Ok(Relation::Unifiable),
-        _ => Err(LineFault::UnknownRelation(word)),
+    let mut rows = words.split(|word| *word == mark);
+    match (rows.next(), rows.next(), rows.next()) {
+        (Some(left), Some(right), None) => Ok(Pair {
+            left: parse_cells(heap, left)?,
+            right: parse_cells(heap, right)?,
+        }),
+        (_, None, _) => Err(LineFault::NoMark(mark).into()),
+        _ => Err(LineFault::SecondMark(mark).into()),
     }
 }
 
-fn parse_bind<'a>(
-    heap: Global,
-    relation: &'a str,
-    variable: &'a str,
-    rows: &[&'a str],
-) -> Result<BindCall, Trouble<'a>> {
-    let relation = parse_relation(relation)?;
-    let variable = parse_cell(variable)?;
-    let rows = parse_pair(heap, rows, BAR)?;
-    Ok(BindCall {
-        relation,
-        variable,
-        rows,
-    })
-}
-
-// The call that the words of a line make. A line with no words makes none, and does not come here.
-fn parse_call<'a>(heap: Global, words: &[&'a str]) -> Result<Call, Trouble<'a>>
-    requires { 0 < length words.now }
+// The variable that a binding is asked for, of the kind that the relation asks for.
+fn parse_asked<'a>(relation: &'a str, variable: &'a str) -> Result<Asked, LineFault<'a>>
+    ensures { IfOk result (AskedTyped relation.now variable.now) }
 {
-    match words {
-        ["check", "formula", cells @ ..] => Ok(Call::CheckFormula(parse_cells(heap, cells)?)),
-        ["check", "rule", sides @ ..] => Ok(Call::CheckRule(parse_pair(heap, sides, ARROW)?)),
-        ["check", word, ..] => Err(LineFault::UnknownCheck(word).into()),
-        ["check"] => Err(LineFault::NothingToCheck.into()),
-        ["bind", relation, variable, rows @ ..] => Ok(Call::Bind(parse_bind(
-            heap, relation, variable, rows,
-        )?)),
-        ["bind", ..] => Err(LineFault::NothingToBind.into()),
-        ["relate", rows @ ..] => Ok(Call::Relate(parse_pair(heap, rows, BAR)?)),
-        ["common", rows @ ..] => Ok(Call::Common(parse_pair(heap, rows, BAR)?)),
-        [word, ..] => Err(LineFault::UnknownCall(word).into()),
-        [] => unreachable(),
-    }
+    let relation = relation
+        .parse::<Relation>()
+        .map_err(|_| LineFault::UnknownRelation(relation))?;
+    Ok(Asked::new(relation, parse_cell(variable)?))
+}
+
+// The call that the words of a line make, if there are any.
+fn parse_call<'a>(heap: Global, words: &[&'a str]) -> Result<Option<Call>, Trouble<'a>> {
+    let call = match words {
+        [] => return Ok(None),
+        ["check", "formula", cells @ ..] => Call::CheckFormula(parse_cells(heap, cells)?),
+        ["check", "rule", sides @ ..] => Call::CheckRule(parse_pair(heap, sides, ARROW)?),
+        ["check", word, ..] => return Err(LineFault::UnknownCheck(word).into()),
+        ["check"] => return Err(LineFault::NothingToCheck.into()),
+        ["bind", relation, variable, rows @ ..] => Call::Bind(BindCall {
+            asked: parse_asked(relation, variable)?,
+            rows: parse_pair(heap, rows, BAR)?,
+        }),
+        ["bind", ..] => return Err(LineFault::NothingToBind.into()),
+        ["relate", rows @ ..] => Call::Relate(parse_pair(heap, rows, BAR)?),
+        ["common", rows @ ..] => Call::Common(parse_pair(heap, rows, BAR)?),
+        [word, ..] => return Err(LineFault::UnknownCall(word).into()),
+    };
+    Ok(Some(call))
 }
 
 // The call of a line, if it has more than a comment.
 pub fn parse_line(heap: Global, line: &str) -> Result<Option<Call>, Trouble<'_>> {
     let words: Vec<&str> = before_comment(line).split_whitespace().collect(heap)?;
-    if words.is_empty() {
-        return Ok(None);
-    }
-    Ok(Some(parse_call(heap, words.as_slice())?))
+    parse_call(heap, words.as_slice())
 }

@@ -1,4 +1,8 @@
 // Why a line of a script gives no call.
+ghost use Rattle.std.specs.Prelude.{◌≡◌, Some};
+ghost use Rattle.script.specs.Faults.{fault_text};
+ghost use Rattle.script.specs.declared.trouble.Trouble.TheVariants.{Line};
+
 use std::alloc::{AllocError, AllocFailed};
 use std::fmt;
 
@@ -16,6 +20,8 @@ pub enum LineFault<'a> {
 }
 
 impl fmt::Display for LineFault<'_> {
+    ghost output = { λ f. Some (fault_text f) };
+
     fn fmt<W: fmt::Write>(&self, f: &mut fmt::Formatter<W>) -> fmt::Result {
         match self {
             LineFault::UnknownCall(word) => write!(f, "unknown call `{word}`"),
@@ -41,6 +47,8 @@ pub enum Trouble<'a> {
 }
 
 impl<'a> From<LineFault<'a>> for Trouble<'a> {
+    ghost from_gives = { λ f r. r ≡ Line f };
+
     fn from(fault: LineFault<'a>) -> Trouble<'a> {
         Trouble::Line(fault)
     }
@@ -53,7 +61,7 @@ impl<'a> From<AllocError> for Trouble<'a> {
 }
 
 impl<'a, T: Drop> From<AllocFailed<T>> for Trouble<'a> {
-    fn from(_refused: AllocFailed<T>) -> Trouble<'a> {
-        Trouble::Memory(AllocError)
+    fn from(refused: AllocFailed<T>) -> Trouble<'a> {
+        Trouble::Memory(refused.into())
     }
 }
