@@ -1,10 +1,8 @@
 // What a call answers, and the line that is printed for it.
-ghost use Rattle.std.specs.Prelude.{◌≡◌};
-ghost use Rattle.rulebook.specs.Answers.{refuses};
+ghost use Rattle.rulebook.specs.Texts.{answer_text};
 
 use cells::Rule;
-use matching::MatchFault;
-use refusals::{Refusal, Side};
+use matching::{Found, Relation};
 use std::fmt;
 
 // What is told of a formula that passes.
@@ -12,13 +10,6 @@ use std::fmt;
 pub struct FormulaSize {
     pub cells: usize,
     pub variables: usize,
-}
-
-// A part of a row, with its position.
-#[derive(Drop)]
-pub struct PartCells {
-    pub at: usize,
-    pub cells: Vec<u32>,
 }
 
 // Which relations of a left side to a formula hold.
@@ -30,28 +21,14 @@ pub struct Held {
     pub unifiable: bool,
 }
 
+// A part, or a common form, may be lacking.
 #[derive(Drop)]
-pub enum Answer {
+pub enum Answer<'a> {
     Formula(FormulaSize),
     Rule(Rule),
-    Refused(Refusal),
-    SideRefused(Side, Refusal),
     Related(Held),
-    Part(PartCells),
-    Form(Vec<u32>),
-    Nothing,
-    PairRefused(MatchFault),
-}
-
-impl Answer {
-    pub fn is_refusal(&self) -> bool
-        ensures { result ≡ refuses self.now }
-    {
-        matches!(
-            self,
-            Answer::Refused(_) | Answer::SideRefused(_, _) | Answer::PairRefused(_)
-        )
-    }
+    Part(Option<Found<'a>>),
+    Form(Option<&'a [u32]>),
 }
 
 // Cells as they are printed.
@@ -70,39 +47,29 @@ impl fmt::Display for CellsText<'_> {
     }
 }
 
-// The row of a pair that is refused.
-fn pair_side(fault: MatchFault) -> &'static str {
-    match fault {
-        MatchFault::Left(_) => "left",
-        MatchFault::Formula(_) => "formula",
-    }
-}
-
 impl fmt::Display for Held {
     fn fmt<W: fmt::Write>(&self, f: &mut fmt::Formatter<W>) -> fmt::Result {
-        let mut none = true;
-        for (holds, name) in [
-            (self.general, "general"),
-            (self.instance, "instance"),
-            (self.variant, "variant"),
-            (self.unifiable, "unifiable"),
-        ] {
-            if holds {
-                if !none {
-                    write!(f, " ")?;
-                }
-                write!(f, "{name}")?;
-                none = false;
-            }
-        }
-        if none {
-            write!(f, "none")?;
+        let relations = [
+            (self.general, Relation::General),
+            (self.instance, Relation::Instance),
+            (self.variant, Relation::Variant),
+            (self.unifiable, Relation::Unifiable),
+        ];
+        let mut held = relations.iter().filter(|(holds, _)| *holds);
+        let Some((_, first)) = held.next() else {
+            return f.write_str("none");
+        };
+        write!(f, "{first}")?;
+        for (_, relation) in held {
+            write!(f, " {relation}")?;
         }
         Ok(())
     }
 }
 
-impl fmt::Display for Answer {
+impl fmt::Display for Answer<'_> {
+    ghost output = { answer_text };
+
     fn fmt<W: fmt::Write>(&self, f: &mut fmt::Formatter<W>) -> fmt::Result {
         match self {
             Answer::Formula(FormulaSize { cells, variables }) => write!(
@@ -115,28 +82,15 @@ impl fmt::Display for Answer {
                 CellsText(rule.left()),
                 CellsText(rule.right())
             ),
-            Answer::Refused(refusal) => write!(f, "{refusal}"),
-            Answer::SideRefused(side, refusal) => write!(f, "{side} {refusal}"),
-            Answer::Part(PartCells { at, cells }) => write!(
+            Answer::Related(held) => write!(f, "{held}"),
+            Answer::Part(Some(Found { at, cells })) => write!(
                 f,
                 "part {at} {}: {}",
                 cells.len(),
-                CellsText(cells.as_slice())
+                CellsText(cells)
             ),
-            Answer::Related(held) => write!(f, "{held}"),
-            Answer::Form(cells) => write!(
-                f,
-                "{} cells: {}",
-                cells.len(),
-                CellsText(cells.as_slice())
-            ),
-            Answer::Nothing => write!(f, "none"),
-            Answer::PairRefused(fault) => write!(
-                f,
-                "{} {}",
-                pair_side(*fault),
-                Refusal::from(*fault)
-            ),
+            Answer::Form(Some(cells)) => write!(f, "{} cells: {}", cells.len(), CellsText(cells)),
+            Answer::Part(None) | Answer::Form(None) => write!(f, "none"),
         }
     }
 }

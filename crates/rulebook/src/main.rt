@@ -3,23 +3,32 @@
 
 mod answer;
 mod perform;
+mod refused;
 mod source;
 mod tally;
 
 use perform::perform;
-use script::{Trouble, parse_line};
+use script::{Call, Trouble, parse_line};
 use source::read_script;
+use std::io;
 use tally::Tally;
 
-// Makes the call of a line, if it has one, and prints what comes of it.
+// Makes the call, counts it and prints what it answers.
+fn play_call(rt: &HostRuntime, call: &Call, tally: &mut Tally) -> io::Result<()> {
+    let mut form = [0; 256];
+    let answer = perform(call, &mut form);
+    tally.count(&answer);
+    match answer {
+        Ok(answer) => println!(rt; "{answer}"),
+        Err(refused) => println!(rt; "{refused}"),
+    }
+}
+
+// Plays the call of a line, if it has one, or prints why it has none.
 fn play_line(rt: &HostRuntime, number: usize, line: &str, tally: &mut Tally) -> anyhow::Result<()> {
     match parse_line(rt.alloc(), line) {
         Ok(None) => {}
-        Ok(Some(call)) => {
-            let answer = perform(rt.alloc(), &call)?;
-            tally.count(&answer);
-            println!(rt; "{answer}")?;
-        }
+        Ok(Some(call)) => play_call(rt, &call, tally)?,
         Err(Trouble::Line(fault)) => println!(rt; "line {number}: {fault}")?,
         Err(Trouble::Memory(error)) => return Err(error.into()),
     }

@@ -1,53 +1,25 @@
 // Making a call.
-ghost use Rattle.std.specs.Prelude.{◌≡◌, IfOk};
+ghost use Rattle.std.specs.Prelude.{◌≡◌};
 ghost use Rattle.cells.specs.Cells.{row};
 ghost use Rattle.cells.specs.Records.{row_words};
-ghost use Rattle.rulebook.specs.Answers.{FormulaAnswer, RuleAnswer, typed_sides, Holding, RelateAnswer, BindAnswer, CommonAnswer, Answers};
+ghost use Rattle.rulebook.specs.Answers.{FormulaAnswer, Holding, RelateAnswer, CommonAnswer, Answers};
 
-use crate::answer::{Answer, FormulaSize, Held, PartCells};
+use crate::answer::{Answer, FormulaSize, Held};
+use crate::refused::Refused;
 use cells::{Formula, Rule};
-use matching::{CheckedPair, binding, check_pair, is_general, is_instance, is_variant};
-use script::{BindCall, Call, Pair};
-use std::alloc::{AllocError, Global};
+use matching::{CheckedPair, MatchFault, binding, check_pair, is_general, is_instance, is_variant};
+use refusals::CellFault;
+use script::{Call, Pair};
 use unification::{FormFault, is_unifiable, write_common_form};
 
-fn check_formula(cells: &[u32]) -> Answer
+fn check_formula(cells: &[u32]) -> Result<FormulaSize, CellFault>
     ensures { FormulaAnswer cells.now result }
 {
-    match Formula::new(cells) {
-        Ok(formula) => Answer::Formula(FormulaSize {
-            cells: formula.cells().len(),
-            variables: formula.variable_count(),
-        }),
-        Err(fault) => Answer::Refused(fault.into()),
-    }
-}
-
-fn check_rule(sides: &Pair) -> Answer
-    ensures { RuleAnswer (typed_sides sides.now) result }
-{
-    match Rule::new(sides.left.as_slice(), sides.right.as_slice()) {
-        Ok(rule) => Answer::Rule(rule),
-        Err(fault) => Answer::SideRefused(fault.side(), fault.into()),
-    }
-}
-
-fn bind(heap: Global, call: &BindCall) -> Result<Answer, AllocError>
-    ensures { IfOk result (λ a. BindAnswer call.now a) }
-{
-    let left = call.rows.left.as_slice();
-    let formula = call.rows.right.as_slice();
-    match binding(call.asked, left, formula) {
-        Ok(Some(found)) => {
-            let cells = Vec::from_slice(heap, found.cells)?;
-            Ok(Answer::Part(PartCells {
-                at: found.at,
-                cells,
-            }))
-        }
-        Ok(None) => Ok(Answer::Nothing),
-        Err(fault) => Ok(Answer::PairRefused(fault)),
-    }
+    let formula = Formula::new(cells)?;
+    Ok(FormulaSize {
+        cells: formula.cells().len(),
+        variables: formula.variable_count(),
+    })
 }
 
 // Which relations hold between checked rows.
@@ -62,37 +34,34 @@ fn held(pair: &CheckedPair) -> Held
     }
 }
 
-fn relate(rows: &Pair) -> Answer
+fn relate(rows: &Pair) -> Result<Held, MatchFault>
     ensures { RelateAnswer rows.now result }
 {
-    match check_pair(rows.left.as_slice(), rows.right.as_slice()) {
-        Ok(pair) => Answer::Related(held(&pair)),
-        Err(fault) => Answer::PairRefused(fault),
-    }
+    let pair = check_pair(rows.left.as_slice(), rows.right.as_slice())?;
+    Ok(held(&pair))
 }
 
-fn common(heap: Global, rows: &Pair) -> Result<Answer, AllocError>
-    ensures { IfOk result (λ a. CommonAnswer rows.now a) }
+fn common<'a>(rows: &Pair, form: &'a mut [u32; 256]) -> Result<Option<&'a [u32]>, FormFault>
+    ensures { CommonAnswer rows.now result }
 {
-    let mut form = [0; 256];
-    match write_common_form(rows.left.as_slice(), rows.right.as_slice(), &mut form) {
-        Ok(found) => match found {
-            Some(n) => Ok(Answer::Form(Vec::from_slice(heap, &form[0..n])?)),
-            None => Ok(Answer::Nothing),
-        },
-        Err(FormFault::Rows(fault)) => Ok(Answer::PairRefused(fault)),
-        Err(fault) => Ok(Answer::Refused(fault.into())),
-    }
+    let length = write_common_form(rows.left.as_slice(), rows.right.as_slice(), form)?;
+    Ok(length.map(|n| &form[..n]))
 }
 
-pub fn perform(heap: Global, call: &Call) -> Result<Answer, AllocError>
-    ensures { IfOk result (λ a. Answers call.now a) }
+// What the call answers, or why it is refused. A common form stands in the buffer.
+pub fn perform<'a>(call: &'a Call, form: &'a mut [u32; 256]) -> Result<Answer<'a>, Refused>
+    ensures { Answers call.now result }
 {
-    match call {
-        Call::CheckFormula(cells) => Ok(check_formula(cells.as_slice())),
-        Call::CheckRule(sides) => Ok(check_rule(sides)),
-        Call::Relate(rows) => Ok(relate(rows)),
-        Call::Bind(call) => bind(heap, call),
-        Call::Common(rows) => common(heap, rows),
-    }
+    Ok(match call {
+        Call::CheckFormula(cells) => Answer::Formula(check_formula(cells.as_slice())?),
+        Call::CheckRule(sides) => {
+            Answer::Rule(Rule::new(sides.left.as_slice(), sides.right.as_slice())?)
+        }
+        Call::Relate(rows) => Answer::Related(relate(rows)?),
+        Call::Bind(call) => {
+            let rows = &call.rows;
+            Answer::Part(binding(call.asked, rows.left.as_slice(), rows.right.as_slice())?)
+        }
+        Call::Common(rows) => Answer::Form(common(rows, form)?),
+    })
 }
