@@ -1,5 +1,6 @@
 // What a call answers, and the line that is printed for it.
-ghost use Rattle.rulebook.specs.Texts.{answer_text};
+ghost use Rattle.std.specs.Prelude.{Some};
+ghost use Rattle.rulebook.specs.Texts.{cells_text, answer_text};
 
 use cells::Rule;
 use matching::{Found, Relation};
@@ -36,12 +37,15 @@ pub enum Answer<'a> {
 struct CellsText<'a>(&'a [u32]);
 
 impl fmt::Display for CellsText<'_> {
+    ghost output = { λ t. Some (cells_text t.0.now) };
+
     fn fmt<W: fmt::Write>(&self, f: &mut fmt::Formatter<W>) -> fmt::Result {
-        for (i, cell) in self.0.iter().enumerate() {
-            if i > 0 {
-                write!(f, " ")?;
-            }
-            write!(f, "0x{cell:08X}")?;
+        let Some((first, rest)) = self.0.split_first() else {
+            return Ok(());
+        };
+        write!(f, "0x{first:08X}")?;
+        for cell in rest {
+            write!(f, " 0x{cell:08X}")?;
         }
         Ok(())
     }
