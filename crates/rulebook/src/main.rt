@@ -43,13 +43,9 @@ fn play(rt: &HostRuntime, script: &str) -> anyhow::Result<Tally> {
     Ok(tally)
 }
 
-fn run(rt: &HostRuntime) -> anyhow::Result<()> {
-    let script = read_script(rt)?;
-    let tally = play(rt, script.as_str())?;
+fn main(rt: HostRuntime) -> anyhow::Result<()> {
+    let script = read_script(&rt)?;
+    let tally = play(&rt, script.as_str())?;
     println!(rt; "{tally}")?;
     Ok(())
-}
-
-fn main(rt: HostRuntime) -> anyhow::Result<()> {
-    run(&rt)
 }

@@ -43,10 +43,8 @@ impl Error for Unreadable {}
 
 // The file that is named as first argument, or standard input.
 fn choose_source(rt: &HostRuntime) -> io::Result<Source> {
-    match env::args(rt)?.nth(1) {
-        None => Ok(Source::StandardInput),
-        Some(path) => Ok(Source::File(path)),
-    }
+    let path = env::args(rt)?.nth(1);
+    Ok(path.map_or(Source::StandardInput, Source::File))
 }
 
 fn read_source(rt: &HostRuntime, source: &Source) -> io::Result<String> {
@@ -59,8 +57,5 @@ fn read_source(rt: &HostRuntime, source: &Source) -> io::Result<String> {
 // The text of the script.
 pub fn read_script(rt: &HostRuntime) -> anyhow::Result<String> {
     let source = choose_source(rt)?;
-    match read_source(rt, &source) {
-        Ok(text) => Ok(text),
-        Err(error) => Err(Unreadable { source, error }.into()),
-    }
+    Ok(read_source(rt, &source).map_err(|error| Unreadable { source, error })?)
 }
