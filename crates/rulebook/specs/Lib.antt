@@ -1,3 +1,3 @@
 pub mod Answers
-pub mod Tallies
+pub mod Printing
 pub mod Texts

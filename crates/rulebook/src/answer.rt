@@ -1,7 +1,8 @@
 // What a call answers, and the line that is printed for it.
 ghost use Rattle.std.specs.Prelude.{Some};
-ghost use Rattle.rulebook.specs.Texts.{cells_text, answer_text};
+ghost use Rattle.rulebook.specs.Texts.{held_text, answer_text};
 
+use crate::printing::{CellsText, Names};
 use cells::Rule;
 use matching::{Found, Relation};
 use std::fmt;
@@ -32,26 +33,9 @@ pub enum Answer<'a> {
     Form(Option<&'a [u32]>),
 }
 
-// Cells as they are printed.
-#[derive(Clone, Copy)]
-struct CellsText<'a>(&'a [u32]);
-
-impl fmt::Display for CellsText<'_> {
-    ghost output = { λ t. Some (cells_text t.0.now) };
-
-    fn fmt<W: fmt::Write>(&self, f: &mut fmt::Formatter<W>) -> fmt::Result {
-        let Some((first, rest)) = self.0.split_first() else {
-            return Ok(());
-        };
-        write!(f, "0x{first:08X}")?;
-        for cell in rest {
-            write!(f, " 0x{cell:08X}")?;
-        }
-        Ok(())
-    }
-}
-
 impl fmt::Display for Held {
+    ghost output = { λ x. Some (held_text x) };
+
     fn fmt<W: fmt::Write>(&self, f: &mut fmt::Formatter<W>) -> fmt::Result {
         let relations = [
             (self.general, Relation::General),
@@ -59,20 +43,12 @@ impl fmt::Display for Held {
             (self.variant, Relation::Variant),
             (self.unifiable, Relation::Unifiable),
         ];
-        let mut held = relations.iter().filter(|(holds, _)| *holds);
-        let Some((_, first)) = held.next() else {
-            return f.write_str("none");
-        };
-        write!(f, "{first}")?;
-        for (_, relation) in held {
-            write!(f, " {relation}")?;
-        }
-        Ok(())
+        write!(f, "{}", Names(&relations))
     }
 }
 
 impl fmt::Display for Answer<'_> {
-    ghost output = { answer_text };
+    ghost output = { λ a. Some (answer_text a) };
 
     fn fmt<W: fmt::Write>(&self, f: &mut fmt::Formatter<W>) -> fmt::Result {
         match self {

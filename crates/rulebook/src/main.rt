@@ -3,6 +3,7 @@
 
 mod answer;
 mod perform;
+mod printing;
 mod refused;
 mod source;
 mod tally;

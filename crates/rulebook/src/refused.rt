@@ -20,32 +20,32 @@ pub enum Refused {
 impl From<CellFault> for Refused {
     ghost from_gives = { λ f r. r ≡ Formula f };
 
-    fn from(fault: CellFault) -> Refused {
-        Refused::Formula(fault)
+    fn from(f: CellFault) -> Refused {
+        Refused::Formula(f)
     }
 }
 
 impl From<RuleFault> for Refused {
     ghost from_gives = { λ f r. r ≡ Rule f };
 
-    fn from(fault: RuleFault) -> Refused {
-        Refused::Rule(fault)
+    fn from(f: RuleFault) -> Refused {
+        Refused::Rule(f)
     }
 }
 
 impl From<MatchFault> for Refused {
     ghost from_gives = { λ f r. r ≡ Pair f };
 
-    fn from(fault: MatchFault) -> Refused {
-        Refused::Pair(fault)
+    fn from(f: MatchFault) -> Refused {
+        Refused::Pair(f)
     }
 }
 
 impl From<FormFault> for Refused {
     ghost from_gives = { λ f r. r ≡ Common f };
 
-    fn from(fault: FormFault) -> Refused {
-        Refused::Common(fault)
+    fn from(f: FormFault) -> Refused {
+        Refused::Common(f)
     }
 }
 

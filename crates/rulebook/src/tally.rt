@@ -1,6 +1,6 @@
 // Counting calls.
 ghost use Rattle.std.specs.Prelude.{◌≡◌, ◌+◌, ◌-◌, ◌^◌, ◌≤◌, Some, min, is_ok, if◌then◌else◌};
-ghost use Rattle.rulebook.specs.Tallies.{tally_text};
+ghost use Rattle.rulebook.specs.Printing.{tally_text};
 
 use crate::answer::Answer;
 use crate::refused::Refused;
