@@ -1,10 +1,11 @@
 -- What matching with no bindings at hand decides. Assumes nothing.
-use Rattle.std.proofs.Common.{◌≡◌, ℕ, ◌-◌, ◌≤◌, Bool, true, false, ◌↔◌, List, [], length, take, drop, Some, None, Decides, Option, sym, refl, ap, ◌∙◌, subst, arith, length-take, length-drop}
+use Rattle.std.proofs.Common.{◌≡◌, ℕ, List, [], length, take, Some, None, Decides, Option, eqb, sym, refl, ap, ◌∙◌, arith, length-take}
 use lib.ListN.{length-map}
 use Rattle.std.specs.List.{between}
 use Rattle.std.proofs.lemmas.List.{take_all}
-use Rattle.std.proofs.lemmas.Slice.{between_to_end}
-use Rattle.std.proofs.lemmas.Bool.{false≢true}
+use Rattle.std.proofs.lemmas.Slice.{between_from_start}
+use Rattle.std.specs.Option.{option_eq}
+use Rattle.std.proofs.lemmas.Bool.{false≢true, eqb-true, eq-eqb}
 use Rattle.cells.specs.Cells.{Cell, variable, cell, word, row}
 use Rattle.cells.specs.Rows.{Whole}
 use Rattle.cells.specs.Substitutions.{Substitution, substitute}
@@ -12,8 +13,8 @@ use Rattle.substitution.specs.declared.bindings.Part.{Part}
 use Rattle.substitution.specs.declared.bindings.Binding.{Binding}
 use Rattle.substitution.specs.Bindings.{lookup, part_of, bound_in}
 use Rattle.matching.specs.Relations.{General}
-use Rattle.matching.specs.Extending.{part, Agrees, AllWhole, Extended}
-use Rattle.matching.specs.Fronts.{Longer, Matched, Unmatched, FrontMatched, Fits}
+use Rattle.matching.specs.Extending.{part, Agrees, AllWhole}
+use Rattle.matching.specs.Fronts.{Longer, Matched, FrontMatched, Fits}
 
 pub none_bound : (w : ℕ) (p : Part) → lookup [] w ≡ Some p → ⊥
 none_bound w p e = let z : ◌≡◌ {A = ℕ} 0 1 = cc in omega arith
@@ -47,32 +48,24 @@ module _ (source : List ℕ) (b b' : List Binding) (s : List Cell) (at : ℕ) wh
   longer_by (Some e) h = h.0
   longer_by None h = h.0
 
--- what is matched up to the end is turned into all that stands at the position
-module _ (source : List ℕ) (b b' : List Binding) (s : List Cell) (at : ℕ) (inside : at ≤ length source) where
-  all : (k : ℕ) → length source ≤ k → take k (drop at (row source)) ≡ drop at (row source)
-  all k l = take_all k (drop at (row source)) (simp (length-drop, length-map) (omega arith))
+module _ (source : List ℕ) (s : List Cell) (b : List Binding) where
+  all : take (length source) (row source) ≡ row source
+  all = take_all (length source) (row source) (simp length-map (omega arith))
 
-  pub extended_by : (e : ℕ) (r : Bool) → (r ≡ true → e ≡ length source) → (e ≡ length source → r ≡ true) → Matched source b s at e b' → Extended source b s (drop at (row source)) r b'
-  extended_by e true ends last h =
-      let l = ends refl in
-      let z = between_to_end (row source) at e (simp length-map (omega arith)) in
-      (h.whole, (λ σ p. subst (λ t. (Agrees source b σ × (substitute σ s ≡ t)) ↔ Agrees source b' σ) z (h.exact σ p)))
-  extended_by e false ends last h = λ σ p x.
-      let y = h.only σ p x.0 (length source) (x.1 ∙ sym (all (length source) (omega arith))) in
-      let n = ap length (sym x.1 ∙ y) ∙ length-take (e - at) (drop at (row source)) in
-      let m = length-drop at (row source) in
-      let k = length-map source cell in
-      let i = h.inside inside in
-      let o = h.order in
-      false≢true (last (omega arith))
+  nothing : (σ : ℕ → List Cell) → Agrees source [] σ
+  nothing σ v p e = absurd (none_bound (word (variable v)) p e)
 
-  pub extended_none : Unmatched source b s at → Extended source b s (drop at (row source)) false b'
-  extended_none h σ p x = h σ p x.0 (length source) (x.1 ∙ sym (all (length source) (omega arith)))
-
-pub decided : (source : List ℕ) (s : List Cell) (r : Bool) (b : List Binding) → Extended source [] s (row source) r b → Decides r (General s (row source))
-decided source s true b h =
-    let w = h.0 (λ u p e. absurd (none_bound u p e)) in
-    let σ = bound_in source b in
-    let p = bound_whole source b w in
-    ((λ t. (σ, record { whole = p; makes = ((h.1 σ p).1 (bound_agrees source b)).1 })), (λ g. refl))
-decided source s false b h = ((λ t. absurd (false≢true t)), (λ g. absurd (h g.0 g.1.whole ((λ v p e. absurd (none_bound (word (variable v)) p e)), g.1.makes))))
+  -- some substitution turns s into the whole row exactly if s takes all of it
+  pub decided : (o : Option ℕ) → FrontMatched source [] s 0 o b → Decides (option_eq eqb o (Some (length source))) (General s (row source))
+  decided (Some e) h = (
+    (λ t.
+        let f = fitting source [] b s 0 e h.1 (λ w p x. absurd (none_bound w p x)) in
+        (f.0, record { whole = f.1; makes = f.3 ∙ between_from_start (row source) e ∙ ap (λ k. take k (row source)) (eqb-true e (length source) t) ∙ all })),
+    (λ (σ, t).
+        let x = h.1.only σ t.whole (nothing σ) (length source) (t.makes ∙ sym all) in
+        let l = ap length (sym t.makes ∙ x ∙ between_from_start (row source) e) ∙ length-take e (row source) in
+        let n = length-map source cell in
+        let i = h.1.inside (omega arith) in
+        eq-eqb e (length source) (omega arith)),
+  )
+  decided None h = ((λ t. absurd (false≢true t)), (λ (σ, t). absurd (h.1 σ t.whole (nothing σ) (length source) (t.makes ∙ sym all))))

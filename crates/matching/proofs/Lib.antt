@@ -1,3 +1,5 @@
+pub mod Longer
+pub mod Fronting
 pub mod Stepping
 pub mod Generality
 pub mod Walking

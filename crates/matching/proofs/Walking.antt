@@ -1,11 +1,11 @@
 -- Walking through a pattern and the row that it becomes. Assumes nothing.
-use Rattle.std.proofs.Common.{◌≡◌, ℕ, zero, suc, ◌+◌, ◌-◌, ◌/◌, ◌%◌, ◌<◌, ◌≤◌, List, [], ◌∷◌, ◌++◌, length, take, drop, Some, None, Option, sym, ap, ◌∙◌, append-nil, arith, length-append, length-drop, take-append-drop}
+use Rattle.std.proofs.Common.{◌≡◌, ℕ, zero, suc, ◌+◌, ◌-◌, ◌/◌, ◌%◌, ◌<◌, ◌≤◌, List, [], ◌∷◌, ◌++◌, length, take, drop, Some, None, Option, sym, refl, ◌≢◌, ap, ◌∙◌, arith, length-append, length-drop, take-append-drop}
 use lib.ListN.{length-map}
 use Rattle.std.specs.List.{between}
-use Rattle.std.proofs.lemmas.List.{drop_all}
+use Rattle.std.proofs.lemmas.List.{drop_all, take_at}
 use Rattle.cells.specs.Cells.{Cell, symbol, variable, cell, word, row}
 use Rattle.cells.specs.Rows.{Stands, Ends}
-use Rattle.cells.specs.Substitutions.{substitute}
+use Rattle.cells.specs.Substitutions.{Substitution, substitute}
 use Rattle.cells.proofs.Words.{cell_symbol, cell_variable}
 use Rattle.cells.proofs.Terms.{row_laws}
 use Rattle.cells.proofs.Substituting.{substitute_append}
@@ -16,14 +16,21 @@ use Rattle.matching.proofs.Stepping.{row_more, rest, no_term}
 use Rattle.matching.proofs.Generality.{none_bound}
 
 module _ (target : List ℕ) (w at : ℕ) where
+  -- what is put for a variable can begin no row where none begins
+  begins_none : 2147483648 ≤ w → Ends target at None → (σ : ℕ → List Cell) (s : List Cell) → Substitution σ → substitute σ (cell w ∷ s) ≢ drop at (row target)
+  begins_none big none σ s p h =
+      let x = substitute σ (cell w ∷ []) in
+      let e = sym (take_at x (substitute σ s) (length x) refl) ∙ ap (take (length x)) (sym (substitute_append σ (cell w ∷ []) s) ∙ h) in
+      no_term target [] w at big none σ p (λ v q f. absurd (none_bound (word (variable v)) q f)) (length x) e
+
   pub pass_variable : 2147483648 ≤ w → (r : Option ℕ) → Ends target at r → Passed target (cell w) at r
-  pass_variable big None e = λ σ s p h. (no_term target [] w at big e).1 σ s [] p ((λ v x f. absurd (none_bound (word (variable v)) x f)), append-nil (substitute σ (cell w ∷ s)) ∙ h)
+  pass_variable big None e = begins_none big e
   pass_variable big (Some n) e = (
     e.0,
     (λ σ s p h.
         let v = w - 2147483648 in
         let h' : σ v ++ substitute σ s ≡ drop at (row target) = ap (λ c. substitute σ (c ∷ s)) (sym (cell_variable w big)) ∙ h in
-        (row_laws.front (σ v) (between at n (row target)) (substitute σ s) (drop n (row target)) (p v) e.1 (h' ∙ rest target at n e)).1),
+        (row_laws.front (σ v) (between at n (row target)) (substitute σ s) (drop n (row target)) (p v) e.1 (h' ∙ (rest target at n e).1)).1),
   )
 
   pub pass_symbol : w < 2147483648 → at < length target → Passed target (cell w) at (Some (at + 1))
@@ -66,10 +73,11 @@ module _ (s : List Cell) (target : List ℕ) (k v at : ℕ) (f : First s v k) (r
         k = k;
         first = f;
         position = omega arith;
-        part = sym (row_laws.front (σ v) (between at e (row target)) (substitute σ (drop (k + 1) s)) (drop e (row target)) (t.whole v) ends.1 (begins σ t ∙ rest target at e ends)).0;
+        part = sym (row_laws.front (σ v) (between at e (row target)) (substitute σ (drop (k + 1) s)) (drop e (row target)) (t.whole v) ends.1 (begins σ t ∙ (rest target at e ends).1)).0;
       }
 
   pub not_none : Ends target at None → General s (row target) → ⊥
   not_none none (σ, t) =
-      (no_term target [] (2147483648 + v) at (omega arith) none).1 σ (drop (k + 1) s) [] t.whole
-      ((λ u x f. absurd (none_bound (word (variable u)) x f)), append-nil (substitute σ (cell (2147483648 + v) ∷ drop (k + 1) s)) ∙ ap (λ c. substitute σ (c ∷ drop (k + 1) s)) (cell_variable (2147483648 + v) (omega arith) ∙ ap variable (omega arith)) ∙ begins σ t)
+      let w = 2147483648 + v in
+      let c : cell w ≡ variable v = cell_variable w (omega arith) ∙ ap variable (omega arith) in
+      begins_none target w at (omega arith) none σ (drop (k + 1) s) t.whole (ap (λ c. substitute σ (c ∷ drop (k + 1) s)) c ∙ begins σ t)

@@ -1,14 +1,10 @@
 -- Matching a pattern against a front of what stands at a position of a row. Assumes nothing.
-use Rattle.std.specs.Prelude.{◌≡◌, ℕ, ◌≤◌, ◌↔◌, List, ◌∷◌, ◌++◌, length, take, drop, Some, None, Option, ◌≢◌}
+use Rattle.std.specs.Prelude.{◌≡◌, ℕ, ◌≤◌, ◌↔◌, List, ◌++◌, length, take, drop, Some, None, Option, ◌≢◌}
 use Rattle.std.specs.List.{between}
 use Rattle.cells.specs.Cells.{Cell, row}
 use Rattle.cells.specs.Substitutions.{Substitution, substitute}
 use Rattle.substitution.specs.declared.bindings.Binding.{Binding}
 use Rattle.matching.specs.Extending.{Agrees, AllWhole}
-
--- σ agrees with the bindings, and s turned by it, with r behind it, is t
-abbrev pub OpenBefore : List ℕ → List Binding → List Cell → List Cell → List Cell → (ℕ → List Cell) → Type 0
-OpenBefore source b s r t σ = Agrees source b σ × (substitute σ s ++ r ≡ t)
 
 -- the list b' is b with at most n bindings added behind: cut back to the length of b it is b again
 pub record Longer (b : List Binding) (n : ℕ) (b' : List Binding) : Type 0 where
@@ -39,9 +35,3 @@ FrontMatched source b s at None b' = Longer b (length s) b' × Unmatched source 
 abbrev pub Fits : List ℕ → List Binding → List Cell → ℕ → Option ℕ → Type 0
 Fits source b s at (Some end) = AllWhole source b → (σ : ℕ → List Cell) × Substitution σ × Agrees source b σ × (substitute σ s ≡ between at end (row source))
 Fits source b s at None = Unmatched source b s at
-
--- the cell c of a pattern is matched at a position, whatever follows it in the pattern and whatever cells r are left of the row
-abbrev pub SteppedBefore : List ℕ → List Binding → Cell → ℕ → Option ℕ → List Binding → Type 0
-SteppedBefore source b c at (Some next) b' = Longer b 1 b' × (at ≤ next) × (next ≤ length source) × (AllWhole source b → AllWhole source b')
-    × ((σ : ℕ → List Cell) (s r : List Cell) → Substitution σ → OpenBefore source b (c ∷ s) r (drop at (row source)) σ ↔ OpenBefore source b' s r (drop next (row source)) σ)
-SteppedBefore source b c at None b' = Longer b 1 b' × ((σ : ℕ → List Cell) (s r : List Cell) → Substitution σ → OpenBefore source b (c ∷ s) r (drop at (row source)) σ → ⊥)

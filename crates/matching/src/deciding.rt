@@ -5,7 +5,7 @@ ghost use Rattle.cells.specs.Records.{row_words};
 ghost use Rattle.cells.specs.Variables.{Variant};
 ghost use Rattle.matching.specs.Relations.{General, Instance};
 
-use crate::matcher::extend;
+use crate::matcher::match_front;
 use cells::{Formula, RuleSide};
 use substitution::Bindings;
 
@@ -15,7 +15,7 @@ fn turns(pattern: &[u32], target: &[u32]) -> bool
     ensures { Decides result (General (row pattern.now) (row target.now)) }
 {
     let mut list = Bindings::none();
-    extend(pattern, target, 0, &mut list)
+    match_front(pattern, target, 0, &mut list) == Some(target.len())
 }
 
 // Whether the left side is general for the formula.

@@ -5,5 +5,5 @@ mod bindings;
 mod trial;
 
 pub use bindings::writing::{clipped, length_under, substitute_into};
-pub use bindings::{Binding, Bindings, Part};
+pub use bindings::{Binding, Bindings, Full, Part};
 pub use trial::Trial;

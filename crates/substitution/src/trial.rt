@@ -15,8 +15,7 @@ impl Drop for Trial<'_> {
     fn drop(self)
         ensures { bindings_list self.exit.0.now ≡ take self.entry.old (bindings_list self.entry.list.now) }
     {
-        let old = self.old;
-        self.list.truncate(old);
-        let Trial { list: _, old: _ } = self;
+        let Trial { list, old } = self;
+        list.truncate(old);
     }
 }

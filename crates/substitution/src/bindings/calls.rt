@@ -1,20 +1,8 @@
 // The list of bindings.
-ghost use Rattle.std.specs.Prelude.{◌≡◌, [], ◌∷◌, ◌++◌, length, take, if◌then◌else◌, nat_lt};
+ghost use Rattle.std.specs.Prelude.{◌≡◌, [], ◌∷◌, ◌++◌, length, take, if◌then◌else◌, nat_lt, is_ok};
 ghost use Rattle.substitution.specs.Bindings.{bindings_list, binding, lookup};
 
-use super::{Binding, Bindings, Part};
-
-// The part of the first binding of the variable.
-fn find_in(list: &[Binding], cell: u32) -> Option<Part>
-    ensures { result ≡ lookup list.now cell }
-{
-    for b in list {
-        if b.variable == cell {
-            return Some(b.part);
-        }
-    }
-    None
-}
+use super::{Binding, Bindings, Full, Part};
 
 impl Bindings {
     // No variable is bound.
@@ -42,21 +30,23 @@ impl Bindings {
     pub fn find(&self, cell: u32) -> Option<Part>
         ensures { result ≡ lookup (bindings_list self.now) cell }
     {
-        find_in(&self.items[0..self.len], cell)
+        self.items[..self.len]
+            .iter()
+            .find(|b| b.variable == cell)
+            .map(|b| b.part)
     }
 
-    // One binding more; false, and nothing, where the list is full.
-    pub fn push(&mut self, variable: u32, part: Part) -> bool
-        ensures done { result ≡ nat_lt (length (bindings_list self.old)) 256 }
-        ensures list { bindings_list self.new ≡ (if result then bindings_list self.old ++ binding variable part ∷ [] else bindings_list self.old) }
+    // One binding more, unless the list is full.
+    pub fn push(&mut self, variable: u32, part: Part) -> Result<(), Full>
+        ensures room { is_ok result ≡ nat_lt (length (bindings_list self.old)) 256 }
+        ensures list { bindings_list self.new ≡ (if is_ok result then bindings_list self.old ++ binding variable part ∷ [] else bindings_list self.old) }
     {
-        let n = self.len;
-        if n >= 256 {
-            return false;
+        if self.len == self.items.len() {
+            return Err(Full);
         }
-        self.items[n] = Binding { variable, part };
-        self.len = n + 1;
-        true
+        self.items[self.len] = Binding { variable, part };
+        self.len += 1;
+        Ok(())
     }
 
     // Only the first n bindings stay.

@@ -1,9 +1,10 @@
 // Writing a row under bindings.
-ghost use Rattle.std.specs.Prelude.{◌≡◌, ◌+◌, ◌<◌, ◌≤◌, [], ◌∷◌, ◌++◌, length, take, drop, Some, None, slice_index};
+ghost use Rattle.std.specs.Prelude.{◌≡◌, ◌≤◌, [], ◌∷◌, ◌++◌, length, take, drop};
 ghost use Rattle.substitution.specs.Bindings.{bindings_list, under, Measured, Written};
 
 use super::{Bindings, Part};
 use cells::VARIABLE;
+use std::slice;
 
 // The part, as far as the source goes.
 pub fn clipped(source: &[u32], part: Part) -> &[u32]
@@ -14,20 +15,22 @@ pub fn clipped(source: &[u32], part: Part) -> &[u32]
     &source[start..start + len]
 }
 
-// What is put for the cell at `i` of the pattern: a part of the source, or the cell itself.
-fn piece<'a>(pattern: &'a [u32], i: usize, bindings: &Bindings, source: &'a [u32]) -> &'a [u32]
-    requires { i < length pattern.now }
-    ensures { result.now ≡ under source.now (bindings_list bindings.now) (slice_index pattern.now i ∷ []) }
+// What is put for a cell of the pattern: a part of the source, or the cell itself.
+#[tactic(auto, using(crate::proofs::Under::parts))]
+fn piece<'a>(w: &'a u32, bindings: &Bindings, source: &'a [u32]) -> &'a [u32]
+    ensures { result.now ≡ under source.now (bindings_list bindings.now) (w.now ∷ []) }
 {
-    if pattern[i] >= VARIABLE {
-        if let Some(part) = bindings.find(pattern[i]) {
-            return clipped(source, part);
-        }
+    if *w >= VARIABLE
+        && let Some(part) = bindings.find(*w)
+    {
+        clipped(source, part)
+    } else {
+        slice::from_ref(w)
     }
-    &pattern[i..i + 1]
 }
 
 // How many words the pattern has under the bindings, if no more than `room`.
+#[tactic(auto, using(crate::proofs::Under::pieces))]
 pub fn length_under(
     pattern: &[u32],
     bindings: &Bindings,
@@ -36,36 +39,25 @@ pub fn length_under(
 ) -> Option<usize>
     ensures { Measured (under source.now (bindings_list bindings.now) pattern.now) room result }
 {
-    let mut n = 0;
-    for i in 0..pattern.len() {
-        let more = piece(pattern, i, bindings, source).len();
-        if more > room - n {
-            return None;
-        }
-        n += more;
+    let mut left = room;
+    for w in pattern {
+        left = left.checked_sub(piece(w, bindings, source).len())?;
     }
-    Some(n)
-}
-
-// Copies the words behind the first `n` of `out`, and says where they end.
-fn push_words(out: &mut [u32], n: usize, more: &[u32]) -> usize
-    requires { n + length more.now ≤ length out.old }
-    ensures end { result ≡ n + length more.now }
-    ensures front { take result out.new ≡ take n out.old ++ more.now }
-    ensures rest { drop result out.new ≡ drop result out.old }
-{
-    out[n..n + more.len()].copy_from_slice(more);
-    n + more.len()
+    Some(room - left)
 }
 
 // Writes the pattern under the bindings, which has room, to the front of `out`.
+#[tactic(auto, using(crate::proofs::Under::pieces))]
 fn write_under(pattern: &[u32], bindings: &Bindings, source: &[u32], out: &mut [u32])
     requires { length (under source.now (bindings_list bindings.now) pattern.now) ≤ length out.old }
-    ensures { Written (under source.now (bindings_list bindings.now) pattern.now) out.old (Some (length (under source.now (bindings_list bindings.now) pattern.now))) out.new }
+    ensures { let ws = under source.now (bindings_list bindings.now) pattern.now in out.new ≡ ws ++ drop (length ws) out.old }
 {
-    let mut n = 0;
-    for i in 0..pattern.len() {
-        n = push_words(out, n, piece(pattern, i, bindings, source));
+    // the place in the caller's buffer
+    let mut end = 0;
+    for w in pattern {
+        let words = piece(w, bindings, source);
+        out[end..end + words.len()].copy_from_slice(words);
+        end += words.len();
     }
 }
 

@@ -1,12 +1,9 @@
-use Rattle.std.proofs.Common.{subst}
 use Rattle.cells.specs.Cells.{row}
 use Rattle.substitution.specs.Bindings.{bindings_list}
-use Rattle.matching.specs.Extending.{Extended}
 use Rattle.matching.proofs.Generality.{decided}
 use Rattle.matching.proofs.deciding.turns.Goals as goal
 
 pub returns : goal.returns
 returns c =
-    let t = c.args.target.now in
-    let s = row c.args.pattern.now in
-    decided t s c.extend.result (bindings_list c.extend.new.list) (subst (λ b. Extended t b s (row t) c.extend.result (bindings_list c.extend.new.list)) c.none-list.ensures c.extend.ensures.extended)
+    rw c.eq.ensures
+    (decided c.args.target.now (row c.args.pattern.now) (bindings_list c.match_front.new.list) c.match_front.result (rw c.none-list.ensures at c.match_front.ensures))

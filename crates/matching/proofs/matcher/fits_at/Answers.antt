@@ -1,7 +1,7 @@
 use Rattle.std.proofs.Common.{length, take, ap, ◌∙◌}
 use Rattle.cells.specs.Cells.{row}
 use Rattle.substitution.specs.Bindings.{bindings_list}
-use Rattle.matching.proofs.Stepping.{cut_back}
+use Rattle.matching.proofs.Longer.{cut_back}
 use Rattle.matching.proofs.Generality.{fits_by, longer_by}
 use Rattle.matching.proofs.matcher.fits_at.Goals as goal
 

@@ -1,6 +1,6 @@
-use Rattle.std.proofs.Common.{◌≡◌, ◌≤◌, length, take}
+use Rattle.std.proofs.Common.{◌≡◌, ◌+◌, length, take}
 use Rattle.substitution.specs.Bindings.{bindings_list, under}
 use Rattle.substitution.proofs.bindings.writing.length_under.Given as goal
 
-abbrev pub invariant-loop-i : goal.invariant-loop-i
-invariant-loop-i l = (l.n ≡ length (under l.source (bindings_list l.bindings) (take l.i l.pattern))) × (l.n ≤ l.room)
+abbrev pub invariant-loop-w : goal.invariant-loop-w
+invariant-loop-w l = l.left + length (under l.source (bindings_list l.bindings) (take l.w-index l.pattern)) ≡ l.room

@@ -1,0 +1,104 @@
+-- Matching one front of a pattern after the other. Assumes nothing.
+use Rattle.std.proofs.Common.{◌≡◌, ℕ, ◌+◌, ◌-◌, ◌≤◌, List, [], ◌∷◌, ◌++◌, length, take, drop, Some, None, sym, refl, ap, ◌∙◌, append_assoc, arith, get_or, ◌<◌, length-append, take-append-drop}
+use mathlib.Core.List.{map-append}
+use Rattle.std.specs.List.{between}
+use Rattle.std.proofs.lemmas.List.{take_at, take_more, take-map, drop-drop, append_cancel_left, append_cancel_right}
+use Rattle.cells.specs.Cells.{Cell, cell, row}
+use Rattle.cells.specs.Substitutions.{Substitution, substitute}
+use Rattle.cells.proofs.Substituting.{substitute_append}
+use Rattle.substitution.specs.declared.bindings.Binding.{Binding}
+use Rattle.matching.specs.Extending.{Agrees, AllWhole}
+use Rattle.matching.specs.Fronts.{Matched, Unmatched, FrontMatched}
+use Rattle.matching.proofs.Longer.{longer_more}
+
+-- what stands at a position is a part and what follows it
+pub part_rest : (cs : List Cell) (at e : ℕ) → at ≤ e → drop at cs ≡ between at e cs ++ drop e cs
+part_rest cs at e l =
+    let z : at + (e - at) ≡ e = omega arith in
+    sym (take-append-drop (e - at) (drop at cs)) ∙ ap (λ x. between at e cs ++ x) (drop-drop (e - at) at cs ∙ ap (λ n. drop n cs) z)
+
+-- σ agrees with the bindings, and s turned by it, with r behind it, is what stands at the position
+abbrev Open : List ℕ → List Binding → List Cell → List Cell → ℕ → (ℕ → List Cell) → Type 0
+Open source b s r at σ = Agrees source b σ × (substitute σ s ++ r ≡ drop at (row source))
+
+module _ (source : List ℕ) (b b' : List Binding) (s : List Cell) (at e : ℕ) where
+  -- a pattern is matched if r can only be the rest of the row
+  matched : at ≤ e → (at ≤ length source → e ≤ length source) → (AllWhole source b → AllWhole source b')
+      → ((σ : ℕ → List Cell) (r : List Cell) → Substitution σ → Open source b s r at σ → Agrees source b' σ × (r ≡ drop e (row source)))
+      → ((σ : ℕ → List Cell) → Substitution σ → Agrees source b' σ → Open source b s (drop e (row source)) at σ)
+      → Matched source b s at e b'
+  matched l i w there back =
+      let t = part_rest (row source) at e l in
+      let part = between at e (row source) in
+      let rest = drop e (row source) in
+      record {
+        order = l;
+        inside = i;
+        whole = w;
+        exact = λ σ p. (
+          (λ x. (there σ rest p (x.0, ap (λ z. z ++ rest) x.1 ∙ sym t)).0),
+          (λ a. let y = back σ p a in (y.0, append_cancel_right (substitute σ s) part rest (y.1 ∙ t))),
+        );
+        only = λ σ p a k x.
+            let r = drop k (drop at (row source)) in
+            let o : substitute σ s ++ r ≡ drop at (row source) = ap (λ z. z ++ r) x ∙ take-append-drop k (drop at (row source)) in
+            let y = there σ r p (a, o) in
+            append_cancel_right (substitute σ s) part rest (ap (λ z. substitute σ s ++ z) (sym y.1) ∙ o ∙ t);
+      }
+
+  module _ (m : Matched source b s at e b') (σ : ℕ → List Cell) (p : Substitution σ) where
+    taken : (r : List Cell) → Open source b s r at σ → Agrees source b' σ × (r ≡ drop e (row source))
+    taken r o =
+        let x = substitute σ s in
+        let f = m.only σ p o.0 (length x) (sym (take_at x r (length x) refl) ∙ ap (take (length x)) o.1) in
+        ((m.exact σ p).0 (o.0, f), append_cancel_left (between at e (row source)) r (drop e (row source)) (ap (λ z. z ++ r) (sym f) ∙ o.1 ∙ part_rest (row source) at e m.order))
+
+    given : Agrees source b' σ → Open source b s (drop e (row source)) at σ
+    given a = let y = (m.exact σ p).1 a in (y.0, ap (λ z. z ++ drop e (row source)) y.1 ∙ sym (part_rest (row source) at e m.order))
+
+pub matched_none : (source : List ℕ) (b : List Binding) (at : ℕ) → Matched source b [] at at b
+matched_none source b at = matched source b b [] at at (omega arith) (λ i. i) (λ w. w) (λ σ r p o. o) (λ σ p a. (a, refl))
+
+module _ (source : List ℕ) (b b' : List Binding) (s t : List Cell) (at mid : ℕ) (m : Matched source b s at mid b') where
+  joined : (σ : ℕ → List Cell) (r : List Cell) → substitute σ (s ++ t) ++ r ≡ substitute σ s ++ (substitute σ t ++ r)
+  joined σ r = ap (λ z. z ++ r) (substitute_append σ s t) ∙ append_assoc (substitute σ s) (substitute σ t) r
+
+  pub matched_more : (e : ℕ) (b'' : List Binding) → Matched source b' t mid e b'' → Matched source b (s ++ t) at e b''
+  matched_more e b'' n =
+      matched source b b'' (s ++ t) at e
+      (omega (arith, m.order, n.order))
+      (λ i. n.inside (m.inside i))
+      (λ w. n.whole (m.whole w))
+      (λ σ r p o.
+      let x = taken source b b' s at mid m σ p (substitute σ t ++ r) (o.0, sym (joined σ r) ∙ o.1) in
+      taken source b' b'' t mid e n σ p r x)
+      (λ σ p a.
+      let y = given source b' b'' t mid e n σ p a in
+      let z = given source b b' s at mid m σ p y.0 in
+      (z.0, joined σ (drop e (row source)) ∙ ap (λ x. substitute σ s ++ x) y.1 ∙ z.1))
+
+  pub unmatched_more : Unmatched source b' t mid → (u : List Cell) → Unmatched source b ((s ++ t) ++ u) at
+  unmatched_more n u σ p a k x =
+      let left = drop k (drop at (row source)) in
+      let r = substitute σ u ++ left in
+      let whole = ap (λ z. z ++ left) (sym (substitute_append σ (s ++ t) u) ∙ x) ∙ take-append-drop k (drop at (row source)) in
+      let o = sym (joined σ r) ∙ sym (append_assoc (substitute σ (s ++ t)) (substitute σ u) left) ∙ whole in
+      let y = taken source b b' s at mid m σ p (substitute σ t ++ r) (a, o) in
+      n σ p y.0 (length (substitute σ t)) (sym (take_at (substitute σ t) r (length (substitute σ t)) refl) ∙ ap (take (length (substitute σ t))) y.1)
+
+module _ (source : List ℕ) (b b' b'' : List Binding) (s t : List Cell) (at mid : ℕ) (h : FrontMatched source b s at (Some mid) b') where
+  pub front_more : (e : ℕ) → FrontMatched source b' t mid (Some e) b'' → FrontMatched source b (s ++ t) at (Some e) b''
+  front_more e x = (longer_more b b' b'' (length s) (length t) (length (s ++ t)) h.0 x.0 (omega (arith, length-append s t)), matched_more source b b' s t at mid h.1 e b'' x.1)
+
+  pub front_fails : FrontMatched source b' t mid None b'' → (u : List Cell) → FrontMatched source b ((s ++ t) ++ u) at None b''
+  front_fails x u = (
+    longer_more b b' b'' (length s) (length t) (length ((s ++ t) ++ u)) h.0 x.0 (omega (arith, length-append s t, length-append (s ++ t) u)),
+    unmatched_more source b b' s t at mid h.1 x.1 u,
+  )
+
+-- one more cell of a pattern
+pub cell_more : (ps : List ℕ) (i : ℕ) → i < length ps → take (i + 1) (row ps) ≡ take i (row ps) ++ cell (get_or ps i 0) ∷ []
+cell_more ps i l = take-map cell (i + 1) ps ∙ ap row (take_more ps i 0 l) ∙ map-append cell (take i ps) (get_or ps i 0 ∷ []) ∙ ap (λ z. z ++ cell (get_or ps i 0) ∷ []) (sym (take-map cell i ps))
+
+pub cells_left : (ps : List ℕ) (i : ℕ) → i < length ps → (take i (row ps) ++ cell (get_or ps i 0) ∷ []) ++ drop (i + 1) (row ps) ≡ row ps
+cells_left ps i l = rw (← cell_more ps i l) (take-append-drop (i + 1) (row ps))
