@@ -18,7 +18,7 @@ part_rest cs at e l =
     sym (take-append-drop (e - at) (drop at cs)) ∙ ap (λ x. between at e cs ++ x) (drop-drop (e - at) at cs ∙ ap (λ n. drop n cs) z)
 
 -- σ agrees with the bindings, and s turned by it, with r behind it, is what stands at the position
-abbrev Open : List ℕ → List Binding → List Cell → List Cell → ℕ → (ℕ → List Cell) → Type 0
+abbrev pub Open : List ℕ → List Binding → List Cell → List Cell → ℕ → (ℕ → List Cell) → Type 0
 Open source b s r at σ = Agrees source b σ × (substitute σ s ++ r ≡ drop at (row source))
 
 module _ (source : List ℕ) (b b' : List Binding) (s : List Cell) (at e : ℕ) where
@@ -47,7 +47,7 @@ module _ (source : List ℕ) (b b' : List Binding) (s : List Cell) (at e : ℕ) 
       }
 
   module _ (m : Matched source b s at e b') (σ : ℕ → List Cell) (p : Substitution σ) where
-    taken : (r : List Cell) → Open source b s r at σ → Agrees source b' σ × (r ≡ drop e (row source))
+    pub taken : (r : List Cell) → Open source b s r at σ → Agrees source b' σ × (r ≡ drop e (row source))
     taken r o =
         let x = substitute σ s in
         let f = m.only σ p o.0 (length x) (sym (take_at x r (length x) refl) ∙ ap (take (length x)) o.1) in

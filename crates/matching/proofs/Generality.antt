@@ -19,6 +19,9 @@ use Rattle.matching.specs.Fronts.{Longer, Matched, FrontMatched, Fits}
 pub none_bound : (w : ℕ) (p : Part) → lookup [] w ≡ Some p → ⊥
 none_bound w p e = let z : ◌≡◌ {A = ℕ} 0 1 = cc in omega arith
 
+pub nothing : (source : List ℕ) (σ : ℕ → List Cell) → Agrees source [] σ
+nothing source σ v p e = absurd (none_bound (word (variable v)) p e)
+
 -- bindings to whole parts are a substitution
 pub bound_whole : (source : List ℕ) (b : List Binding) → AllWhole source b → Substitution (bound_in source b)
 bound_whole source b h v = by_part (lookup b (word (variable v))) (h (word (variable v)))
@@ -52,9 +55,6 @@ module _ (source : List ℕ) (s : List Cell) (b : List Binding) where
   all : take (length source) (row source) ≡ row source
   all = take_all (length source) (row source) (simp length-map (omega arith))
 
-  nothing : (σ : ℕ → List Cell) → Agrees source [] σ
-  nothing σ v p e = absurd (none_bound (word (variable v)) p e)
-
   -- some substitution turns s into the whole row exactly if s takes all of it
   pub decided : (o : Option ℕ) → FrontMatched source [] s 0 o b → Decides (option_eq eqb o (Some (length source))) (General s (row source))
   decided (Some e) h = (
@@ -62,10 +62,10 @@ module _ (source : List ℕ) (s : List Cell) (b : List Binding) where
         let f = fitting source [] b s 0 e h.1 (λ w p x. absurd (none_bound w p x)) in
         (f.0, record { whole = f.1; makes = f.3 ∙ between_from_start (row source) e ∙ ap (λ k. take k (row source)) (eqb-true e (length source) t) ∙ all })),
     (λ (σ, t).
-        let x = h.1.only σ t.whole (nothing σ) (length source) (t.makes ∙ sym all) in
+        let x = h.1.only σ t.whole (nothing source σ) (length source) (t.makes ∙ sym all) in
         let l = ap length (sym t.makes ∙ x ∙ between_from_start (row source) e) ∙ length-take e (row source) in
         let n = length-map source cell in
         let i = h.1.inside (omega arith) in
         eq-eqb e (length source) (omega arith)),
   )
-  decided None h = ((λ t. absurd (false≢true t)), (λ (σ, t). absurd (h.1 σ t.whole (nothing σ) (length source) (t.makes ∙ sym all))))
+  decided None h = ((λ t. absurd (false≢true t)), (λ (σ, t). absurd (h.1 σ t.whole (nothing source σ) (length source) (t.makes ∙ sym all))))

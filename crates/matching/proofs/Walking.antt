@@ -1,69 +1,63 @@
--- Walking through a pattern and the row that it becomes. Assumes nothing.
-use Rattle.std.proofs.Common.{◌≡◌, ℕ, zero, suc, ◌+◌, ◌-◌, ◌/◌, ◌%◌, ◌<◌, ◌≤◌, List, [], ◌∷◌, ◌++◌, length, take, drop, Some, None, Option, sym, refl, ◌≢◌, ap, ◌∙◌, arith, length-append, length-drop, take-append-drop}
+-- Where what is put for a pattern's variable stands in the row that it becomes. Assumes nothing.
+use Rattle.std.proofs.Common.{◌≡◌, ℕ, zero, suc, ◌+◌, ◌-◌, ◌<◌, List, [], ◌∷◌, ◌++◌, length, take, drop, Some, None, Option, sym, refl, ap, ◌∙◌, subst, arith, length-append, length-drop, take-append-drop}
 use lib.ListN.{length-map}
-use Rattle.std.specs.List.{between}
-use Rattle.std.proofs.lemmas.List.{drop_all, take_at}
-use Rattle.cells.specs.Cells.{Cell, symbol, variable, cell, word, row}
-use Rattle.cells.specs.Rows.{Stands, Ends}
-use Rattle.cells.specs.Substitutions.{Substitution, substitute}
-use Rattle.cells.proofs.Words.{cell_symbol, cell_variable}
+use Rattle.std.specs.List.{between, AllWithin, HoldsAt}
+use Rattle.std.specs.Option.{IsSome, MatchOption}
+use Rattle.std.proofs.lemmas.List.{take_at}
+use Rattle.cells.specs.Cells.{Cell, variable, cell, row}
+use Rattle.cells.specs.Rows.{Whole, Stands, Occurs, Ends}
+use Rattle.cells.specs.Substitutions.{substitute}
+use Rattle.cells.proofs.Listing.{stands_word, word_stands}
 use Rattle.cells.proofs.Terms.{row_laws}
 use Rattle.cells.proofs.Substituting.{substitute_append}
+use Rattle.substitution.specs.declared.bindings.Binding.{Binding}
 use Rattle.matching.specs.Relations.{Turns, General}
-use Rattle.matching.specs.Walking.{Passed, Reached}
+use Rattle.matching.specs.Walking.{Reached}
 use Rattle.matching.specs.Bound.{First, BoundAt}
-use Rattle.matching.proofs.Stepping.{row_more, rest, no_term}
-use Rattle.matching.proofs.Generality.{none_bound}
+use Rattle.matching.specs.Fronts.{FrontMatched}
+use Rattle.matching.proofs.Fronting.{taken}
+use Rattle.matching.proofs.Stepping.{rest}
+use Rattle.matching.proofs.Generality.{nothing}
 
-module _ (target : List ℕ) (w at : ℕ) where
-  -- what is put for a variable can begin no row where none begins
-  begins_none : 2147483648 ≤ w → Ends target at None → (σ : ℕ → List Cell) (s : List Cell) → Substitution σ → substitute σ (cell w ∷ s) ≢ drop at (row target)
-  begins_none big none σ s p h =
-      let x = substitute σ (cell w ∷ []) in
-      let e = sym (take_at x (substitute σ s) (length x) refl) ∙ ap (take (length x)) (sym (substitute_append σ (cell w ∷ []) s) ∙ h) in
-      no_term target [] w at big none σ p (λ v q f. absurd (none_bound (word (variable v)) q f)) (length x) e
+-- the first place of a variable, by the words
+pub first_by : (ps : List ℕ) (v : ℕ) (o : Option ℕ)
+    → MatchOption o (AllWithin (λ w. w ≡ 2147483648 + v → ⊥) ps 0 (length ps)) (λ k. (k < length ps) × HoldsAt (λ w. w ≡ 2147483648 + v) ps k × AllWithin (λ w. w ≡ 2147483648 + v → ⊥) ps 0 k)
+    → MatchOption o (Occurs (row ps) v → ⊥) (λ k. First (row ps) v k)
+first_by ps v None h = λ (k, e). let x = stands_word ps k v e in h k 0 (omega arith) x.0 x.1
+first_by ps v (Some k) (l, here, before) = record { here = word_stands ps k v l (here 0); before = λ j l e. before j 0 (omega arith) l (stands_word ps j v e).1 }
 
-  pub pass_variable : 2147483648 ≤ w → (r : Option ℕ) → Ends target at r → Passed target (cell w) at r
-  pass_variable big None e = begins_none big e
-  pass_variable big (Some n) e = (
-    e.0,
-    (λ σ s p h.
-        let v = w - 2147483648 in
-        let h' : σ v ++ substitute σ s ≡ drop at (row target) = ap (λ c. substitute σ (c ∷ s)) (sym (cell_variable w big)) ∙ h in
-        (row_laws.front (σ v) (between at n (row target)) (substitute σ s) (drop n (row target)) (p v) e.1 (h' ∙ (rest target at n e).1)).1),
-  )
+module _ (s : List Cell) (target : List ℕ) (k : ℕ) where
+  -- what is put for the cells before k, and for the others
+  parts : (σ : ℕ → List Cell) → Turns σ s (row target) → substitute σ (take k s) ++ substitute σ (drop k s) ≡ row target
+  parts σ t = sym (substitute_append σ (take k s) (drop k s)) ∙ ap (substitute σ) (take-append-drop k s) ∙ t.makes
 
-  pub pass_symbol : w < 2147483648 → at < length target → Passed target (cell w) at (Some (at + 1))
-  pass_symbol small l = (
-    omega arith,
-    (λ σ s p h.
-        let h' : symbol (w / 65536) (w % 65536) ∷ substitute σ s ≡ drop at (row target) = ap (λ c. substitute σ (c ∷ s)) (sym (cell_symbol w small)) ∙ h in
-        let e = row_more target at l in
-        cc),
-  )
+  pub front_some : (b : List Binding) (o : Option ℕ) → FrontMatched target [] (take k s) 0 o b → General s (row target) → IsSome o
+  front_some b (Some e) h g = refl
+  front_some b None h (σ, t) =
+      let x = substitute σ (take k s) in
+      absurd (h.1 σ t.whole (nothing target σ) (length x) (sym (take_at x (substitute σ (drop k s)) (length x) refl) ∙ ap (take (length x)) (parts σ t)))
 
-  pub pass_none : w < 2147483648 → length target ≤ at → Passed target (cell w) at None
-  pass_none small l σ s p h =
-      let h' : symbol (w / 65536) (w % 65536) ∷ substitute σ s ≡ drop at (row target) = ap (λ c. substitute σ (c ∷ s)) (sym (cell_symbol w small)) ∙ h in
-      let e = drop_all at (row target) (simp length-map l) in
-      let z : ◌≡◌ {A = ℕ} 0 1 = cc in
-      omega arith
+  pub reached : (b : List Binding) (e : ℕ) → FrontMatched target [] (take k s) 0 (Some e) b → Reached s target k e
+  reached b e h = record {
+    inside = h.1.inside (omega arith);
+    rest = λ σ t. (taken target [] b (take k s) 0 e h.1 σ t.whole (substitute σ (drop k s)) (nothing target σ, parts σ t)).1;
+  }
 
 -- what a variable's place leaves of the row
-pub from_place : (s : List Cell) (k v : ℕ) → Stands s k v → drop k s ≡ variable v ∷ drop (k + 1) s
+from_place : (s : List Cell) (k v : ℕ) → Stands s k v → drop k s ≡ variable v ∷ drop (k + 1) s
 from_place [] k v e = let z : ◌≡◌ {A = ℕ} 0 1 = cc in absurd (omega arith)
 from_place (c ∷ s) zero v e = ap (λ x. x ∷ s) e
 from_place (c ∷ s) (suc k) v e = let n : suc k + 1 ≡ suc (k + 1) = omega arith in from_place s k v e ∙ ap (λ x. variable v ∷ drop x (c ∷ s)) (sym n)
 
 module _ (s : List Cell) (target : List ℕ) (k v at : ℕ) (f : First s v k) (r : Reached s target k at) where
   -- what is put for v begins there
-  pub begins : (σ : ℕ → List Cell) → Turns σ s (row target) → σ v ++ substitute σ (drop (k + 1) s) ≡ drop at (row target)
+  begins : (σ : ℕ → List Cell) → Turns σ s (row target) → σ v ++ substitute σ (drop (k + 1) s) ≡ drop at (row target)
   begins σ t = ap (substitute σ) (sym (from_place s k v f.here)) ∙ r.rest σ t
 
   pub bound_at : (e : ℕ) → Ends target at (Some e) → General s (row target) → BoundAt s (row target) v at (between at e (row target))
   bound_at e ends (σ, t) =
-      let whole = ap length (sym (substitute_append σ (take k s) (drop k s)) ∙ ap (substitute σ) (take-append-drop k s) ∙ t.makes) in
-      let parts = length-append (substitute σ (take k s)) (substitute σ (drop k s)) in
+      let whole = ap length (parts s target k σ t) in
+      let front = length-append (substitute σ (take k s)) (substitute σ (drop k s)) in
       let tail = ap length (r.rest σ t) ∙ length-drop at (row target) in
       let n = length-map target cell in
       let i = r.inside in
@@ -76,8 +70,9 @@ module _ (s : List Cell) (target : List ℕ) (k v at : ℕ) (f : First s v k) (r
         part = sym (row_laws.front (σ v) (between at e (row target)) (substitute σ (drop (k + 1) s)) (drop e (row target)) (t.whole v) ends.1 (begins σ t ∙ (rest target at e ends).1)).0;
       }
 
-  pub not_none : Ends target at None → General s (row target) → ⊥
-  not_none none (σ, t) =
-      let w = 2147483648 + v in
-      let c : cell w ≡ variable v = cell_variable w (omega arith) ∙ ap variable (omega arith) in
-      begins_none target w at (omega arith) none σ (drop (k + 1) s) t.whole (ap (λ c. substitute σ (c ∷ drop (k + 1) s)) c ∙ begins σ t)
+  pub ends_some : (o : Option ℕ) → Ends target at o → General s (row target) → IsSome o
+  ends_some (Some e) h g = refl
+  ends_some None none (σ, t) =
+      let n : at + length (σ v) - at ≡ length (σ v) = omega arith in
+      let same = sym (take_at (σ v) (substitute σ (drop (k + 1) s)) (length (σ v)) refl) ∙ ap (take (length (σ v))) (begins σ t) ∙ ap (λ n. take n (drop at (row target))) (sym n) in
+      absurd (none (at + length (σ v)) (subst Whole same (t.whole v)))

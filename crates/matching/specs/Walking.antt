@@ -1,14 +1,8 @@
 -- Where what is put for a pattern's cells stands in the row that it becomes. Assumes nothing.
-use Rattle.std.specs.Prelude.{◌≡◌, ℕ, ◌≤◌, List, ◌∷◌, length, drop, Some, None, Option, ◌≢◌}
+use Rattle.std.specs.Prelude.{◌≡◌, ℕ, ◌≤◌, List, length, drop}
 use Rattle.cells.specs.Cells.{Cell, row}
-use Rattle.cells.specs.Substitutions.{Substitution, substitute}
+use Rattle.cells.specs.Substitutions.{substitute}
 use Rattle.matching.specs.Relations.{Turns}
-
--- what is put for the cell c at a position ends at the next, whatever follows
-abbrev pub Passed : List ℕ → Cell → ℕ → Option ℕ → Type 0
-Passed target c at (Some next) = (next ≤ length target)
-    × ((σ : ℕ → List Cell) (s : List Cell) → Substitution σ → substitute σ (c ∷ s) ≡ drop at (row target) → (substitute σ s ≡ drop next (row target)))
-Passed target c at None = (σ : ℕ → List Cell) (s : List Cell) → Substitution σ → substitute σ (c ∷ s) ≢ drop at (row target)
 
 -- what is put for the pattern from k on stands at the position, whichever substitution turns the pattern into the target
 pub record Reached (s : List Cell) (target : List ℕ) (k at : ℕ) : Type 0 where

@@ -9,7 +9,7 @@ pub struct Part {
 }
 
 // A variable of the pattern, by its cell, and the part that is put for it.
-#[derive(Clone, Copy, PartialEq, Eq)]
+#[derive(Clone, Copy)]
 pub struct Binding {
     pub variable: u32,
     pub part: Part,
