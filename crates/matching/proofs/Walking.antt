@@ -3,7 +3,7 @@ use Rattle.std.proofs.Common.{◌≡◌, ℕ, zero, suc, ◌+◌, ◌-◌, ◌<�
 use lib.ListN.{length-map}
 use Rattle.std.specs.List.{between, AllWithin, HoldsAt}
 use Rattle.std.specs.Option.{IsSome, MatchOption}
-use Rattle.std.proofs.lemmas.List.{take_at}
+use Rattle.std.proofs.lemmas.List.{take_at, take-map}
 use Rattle.cells.specs.Cells.{Cell, variable, cell, row}
 use Rattle.cells.specs.Rows.{Whole, Stands, Occurs, Ends}
 use Rattle.cells.specs.Substitutions.{substitute}
@@ -26,22 +26,29 @@ pub first_by : (ps : List ℕ) (v : ℕ) (o : Option ℕ)
 first_by ps v None h = λ (k, e). let x = stands_word ps k v e in h k 0 (omega arith) x.0 x.1
 first_by ps v (Some k) (l, here, before) = record { here = word_stands ps k v l (here 0); before = λ j l e. before j 0 (omega arith) l (stands_word ps j v e).1 }
 
-module _ (s : List Cell) (target : List ℕ) (k : ℕ) where
-  -- what is put for the cells before k, and for the others
-  parts : (σ : ℕ → List Cell) → Turns σ s (row target) → substitute σ (take k s) ++ substitute σ (drop k s) ≡ row target
-  parts σ t = sym (substitute_append σ (take k s) (drop k s)) ∙ ap (substitute σ) (take-append-drop k s) ∙ t.makes
+-- what is put for the cells before k, and for the others
+parts : (s t : List Cell) (k : ℕ) (σ : ℕ → List Cell) → Turns σ s t → substitute σ (take k s) ++ substitute σ (drop k s) ≡ t
+parts s t k σ h = sym (substitute_append σ (take k s) (drop k s)) ∙ ap (substitute σ) (take-append-drop k s) ∙ h.makes
 
-  pub front_some : (b : List Binding) (o : Option ℕ) → FrontMatched target [] (take k s) 0 o b → General s (row target) → IsSome o
-  front_some b (Some e) h g = refl
-  front_some b None h (σ, t) =
-      let x = substitute σ (take k s) in
-      absurd (h.1 σ t.whole (nothing target σ) (length x) (sym (take_at x (substitute σ (drop k s)) (length x) refl) ∙ ap (take (length x)) (parts σ t)))
+-- the cells before k are matched with no bindings at hand
+module _ (ps target : List ℕ) (k : ℕ) (b b' : List Binding) (none : b ≡ []) where
+  front : (o : Option ℕ) → FrontMatched target b (row (take k ps)) 0 o b' → FrontMatched target [] (take k (row ps)) 0 o b'
+  front o h = rw (none, ← take-map cell k ps) at h
 
-  pub reached : (b : List Binding) (e : ℕ) → FrontMatched target [] (take k s) 0 (Some e) b → Reached s target k e
-  reached b e h = record {
-    inside = h.1.inside (omega arith);
-    rest = λ σ t. (taken target [] b (take k s) 0 e h.1 σ t.whole (substitute σ (drop k s)) (nothing target σ, parts σ t)).1;
-  }
+  pub front_some : (o : Option ℕ) → FrontMatched target b (row (take k ps)) 0 o b' → General (row ps) (row target) → IsSome o
+  front_some (Some e) h g = refl
+  front_some None h (σ, t) =
+      let x = substitute σ (take k (row ps)) in
+      let e = sym (take_at x (substitute σ (drop k (row ps))) (length x) refl) ∙ ap (take (length x)) (parts (row ps) (row target) k σ t) in
+      absurd ((front None h).1 σ t.whole (nothing target σ) (length x) e)
+
+  pub reached : (e : ℕ) → FrontMatched target b (row (take k ps)) 0 (Some e) b' → Reached (row ps) target k e
+  reached e h =
+      let m = (front (Some e) h).1 in
+      record {
+        inside = m.inside (omega arith);
+        rest = λ σ t. (taken target [] b' (take k (row ps)) 0 e m σ t.whole (substitute σ (drop k (row ps))) (nothing target σ, parts (row ps) (row target) k σ t)).1;
+      }
 
 -- what a variable's place leaves of the row
 from_place : (s : List Cell) (k v : ℕ) → Stands s k v → drop k s ≡ variable v ∷ drop (k + 1) s
@@ -56,7 +63,7 @@ module _ (s : List Cell) (target : List ℕ) (k v at : ℕ) (f : First s v k) (r
 
   pub bound_at : (e : ℕ) → Ends target at (Some e) → General s (row target) → BoundAt s (row target) v at (between at e (row target))
   bound_at e ends (σ, t) =
-      let whole = ap length (parts s target k σ t) in
+      let whole = ap length (parts s (row target) k σ t) in
       let front = length-append (substitute σ (take k s)) (substitute σ (drop k s)) in
       let tail = ap length (r.rest σ t) ∙ length-drop at (row target) in
       let n = length-map target cell in

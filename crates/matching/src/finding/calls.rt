@@ -1,8 +1,7 @@
 // Finding the binding of a variable.
-ghost use Rattle.std.specs.Prelude.{◌≡◌, ◌+◌, ◌<◌, ◌≤◌, length, Decides, MatchOption};
+ghost use Rattle.std.specs.Prelude.{◌≡◌, ◌<◌, ◌≤◌, length, MatchOption};
 ghost use Rattle.cells.specs.Cells.{row};
 ghost use Rattle.cells.specs.Rows.{Occurs};
-ghost use Rattle.cells.specs.Records.{row_words};
 ghost use Rattle.matching.specs.Relations.{General};
 ghost use Rattle.matching.specs.Pairs.{PairHeld};
 ghost use Rattle.matching.specs.Walking.{Reached};
@@ -16,18 +15,13 @@ use crate::pair::{CheckedPair, check_pair};
 use cells::{VARIABLE, term_end};
 use substitution::Bindings;
 
-// Whether the word is the variable's cell.
-fn is_cell_of(w: u32, v: u32) -> bool
-    ensures { Decides result (w ≡ 2147483648 + v) }
-{
-    w >= VARIABLE && w - VARIABLE == v
-}
-
 // Where the variable stands first.
 fn first_place(pattern: &[u32], v: u32) -> Option<usize>
     ensures { MatchOption result (Occurs (row pattern.now) v → ⊥) (λ k. First (row pattern.now) v k) }
 {
-    pattern.iter().position(|w| is_cell_of(*w, v))
+    pattern
+        .iter()
+        .position(|w| w.checked_sub(VARIABLE) == Some(v))
 }
 
 // Where what is put for the pattern's cell at `k` begins, if the pattern is general for the target.

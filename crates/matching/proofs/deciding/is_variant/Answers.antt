@@ -5,12 +5,12 @@ use Rattle.cells.specs.Records.{row_words}
 use Rattle.matching.proofs.Relating.{relation_laws}
 use Rattle.matching.proofs.deciding.is_variant.Goals as goal
 
-pub returns-then-there : goal.returns-then-there
-returns-then-there c =
+pub returns-then-is_general : goal.returns-then-is_general
+returns-then-is_general c =
     let m = relation_laws.mutual_variants (row (row_words c.args.left.now)) (row (row_words c.args.formula.now)) in
-    ((λ t. m.1 (c.is_general-there.ensures.0 c.if-there.true, c.is_instance-back.ensures.0 t)), (λ h. c.is_instance-back.ensures.1 (m.0 h).1))
+    ((λ t. m.1 (c.is_general.ensures.0 c.if-is_general.true, c.is_instance.ensures.0 t)), (λ h. c.is_instance.ensures.1 (m.0 h).1))
 
-pub returns-else-there : goal.returns-else-there
-returns-else-there c =
+pub returns-else-is_general : goal.returns-else-is_general
+returns-else-is_general c =
     let m = relation_laws.mutual_variants (row (row_words c.args.left.now)) (row (row_words c.args.formula.now)) in
-    ((λ t. absurd (true≢false (sym t ∙ c.if-there.false))), (λ h. c.is_general-there.ensures.1 (m.0 h).0))
+    ((λ t. absurd (true≢false (sym t ∙ c.if-is_general.false))), (λ h. c.is_general.ensures.1 (m.0 h).0))
