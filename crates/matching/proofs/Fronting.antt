@@ -56,9 +56,6 @@ module _ (source : List ℕ) (b b' : List Binding) (s : List Cell) (at e : ℕ) 
     given : Agrees source b' σ → Open source b s (drop e (row source)) at σ
     given a = let y = (m.exact σ p).1 a in (y.0, ap (λ z. z ++ drop e (row source)) y.1 ∙ sym (part_rest (row source) at e m.order))
 
-pub matched_none : (source : List ℕ) (b : List Binding) (at : ℕ) → Matched source b [] at at b
-matched_none source b at = matched source b b [] at at (omega arith) (λ i. i) (λ w. w) (λ σ r p o. o) (λ σ p a. (a, refl))
-
 module _ (source : List ℕ) (b b' : List Binding) (s t : List Cell) (at mid : ℕ) (m : Matched source b s at mid b') where
   joined : (σ : ℕ → List Cell) (r : List Cell) → substitute σ (s ++ t) ++ r ≡ substitute σ s ++ (substitute σ t ++ r)
   joined σ r = ap (λ z. z ++ r) (substitute_append σ s t) ∙ append_assoc (substitute σ s) (substitute σ t) r

@@ -17,7 +17,7 @@ use Rattle.matching.specs.Extending.{part, Agrees, AllWhole}
 use Rattle.matching.specs.Fronts.{Longer, Matched, FrontMatched, Fits}
 
 pub none_bound : (w : ℕ) (p : Part) → lookup [] w ≡ Some p → ⊥
-none_bound w p e = let z : ◌≡◌ {A = ℕ} 0 1 = cc in omega arith
+none_bound w p e = cc
 
 pub nothing : (source : List ℕ) (σ : ℕ → List Cell) → Agrees source [] σ
 nothing source σ v p e = absurd (none_bound (word (variable v)) p e)

@@ -28,9 +28,6 @@ longer_more b b' b'' m n k x y l = record {
 pub cut_back : (b b' : List Binding) (n : ℕ) → Longer b n b' → take (length b) b' ≡ b
 cut_back b b' n h = ap (take (length b)) h.is ∙ take_at b h.more (length b) refl
 
-pub longer_length : (b b' : List Binding) (n : ℕ) → Longer b n b' → length b' ≤ length b + n
-longer_length b b' n h = omega (arith, ap length h.is, length-append b h.more, h.few)
-
 -- what is looked up in a list with one binding more
 lookup_push : (b : List Binding) (w : ℕ) (p : Part) (u : ℕ) → lookup (b ++ binding w p ∷ []) u ≡ cond (is_some (lookup b u)) (lookup b u) (cond (eqb w u) (Some p) None)
 lookup_push [] w p u = refl

@@ -16,8 +16,7 @@ not_before : (j : ℕ) → j < 1 → Stands min_same j 0 → ⊥
 not_before j l e =
     let z : j ≡ 0 = omega arith in
     let y = ap (λ n. get_or min_same n (symbol 0 0)) (sym z) ∙ e in
-    let x : ◌≡◌ {A = ℕ} 0 1 = cc in
-    omega arith
+    cc
 
 second : General min_same other_girths → ⊥
 second (σ, h) =
@@ -46,8 +45,7 @@ most d (σ, p) (τ, q) =
 no_variants : Variant h_first h_last → ⊥
 no_variants h =
     let e = (variable_laws.same h_first h_last).0 h in
-    let z : ◌≡◌ {A = ℕ} 0 1 = cc in
-    omega arith
+    cc
 
 pub marked : Marked
 marked = record {

@@ -1,5 +1,5 @@
 -- Laws of the relations. Assumes nothing.
-use Rattle.std.proofs.Common.{◌≡◌, ℕ, List, [], ◌∷◌, sym, refl, ap, ◌∙◌, append-nil, arith}
+use Rattle.std.proofs.Common.{◌≡◌, ℕ, List, [], ◌∷◌, sym, refl, ap, ◌∙◌, append-nil}
 use Rattle.std.proofs.lemmas.Bool.{false≢true}
 use Rattle.cells.specs.Cells.{Cell, symbol, variable}
 use Rattle.cells.specs.Rows.{Whole, Occurs}
@@ -38,7 +38,7 @@ begins (variable v ∷ cs) = v
 -- only a row of one variable becomes a row of one variable
 one_variable : (τ : ℕ → List Cell) (r : List Cell) (v : ℕ) → Whole r → substitute τ r ≡ variable v ∷ [] → r ≡ variable (begins r) ∷ []
 one_variable τ [] v w e = absurd (false≢true w)
-one_variable τ (symbol k f ∷ r) v w e = let z : ◌≡◌ {A = ℕ} 0 1 = cc in absurd (omega arith)
+one_variable τ (symbol k f ∷ r) v w e = cc
 one_variable τ (variable u ∷ []) v w e = refl
 one_variable τ (variable u ∷ (c ∷ r)) v w e = absurd (false≢true w)
 

@@ -27,8 +27,7 @@ front_occurs s k v (j, e) =
     (λ past.
     let n = length-take k s in
     let d = get_or_past (take k s) j (symbol 0 0) (omega arith) in
-    let z : ◌≡◌ {A = ℕ} 0 1 = cc in
-    absurd (omega arith))
+    cc)
     (cases_lt j k)
 
 one_bound : (s t : List Cell) (v m n : ℕ) (p q : List Cell) → BoundAt s t v m p → BoundAt s t v n q → (m ≡ n) × (p ≡ q)
@@ -49,9 +48,8 @@ module _ (P : Type 0) (s : List Cell) (t : List ℕ) (v : ℕ) where
   one_binding (Some x) None a b = let h = a.1 in absurd (b a.0 (h.k, h.first.here))
   one_binding (Some x) (Some y) a b =
       let e = one_bound s (row t) v x.at y.at (row x.cells.now) (row y.cells.now) a.1 b.1 in
-      let m = e.0 in
       let w = same_parts x.cells.now y.cells.now e.1 in
-      ap (λ n. Ok (Some (n, x.cells.now))) m ∙ ap (λ z. Ok (Some (y.at, z))) w
+      cc
 
 one_asked : (a : Asked) (l f : List ℕ) (x y : Option Found) → AskedBinding a l f x → AskedBinding a l f y → seen (Ok x) ≡ seen (Ok y)
 one_asked (asked.General v) l f x y a b = one_binding _ (row l) f v.0 x y a b
@@ -63,8 +61,7 @@ module _ (l f : List ℕ) where
   passes : (e : MatchFault) → GoodPair l f → PairFault l f e → ⊥
   passes e a b =
       let h = one_pair_answer l f (Ok tt) (Err e) a b in
-      let z : ◌≡◌ {A = ℕ} 0 1 = cc in
-      omega arith
+      cc
 
 fault : (q : Asked) (l f : List ℕ) (e : MatchFault) → BindingAnswer q l f (Err e) → PairFault l f e
 fault q l f (Left e) h = h

@@ -52,7 +52,7 @@ module _ (ps target : List ℕ) (k : ℕ) (b b' : List Binding) (none : b ≡ []
 
 -- what a variable's place leaves of the row
 from_place : (s : List Cell) (k v : ℕ) → Stands s k v → drop k s ≡ variable v ∷ drop (k + 1) s
-from_place [] k v e = let z : ◌≡◌ {A = ℕ} 0 1 = cc in absurd (omega arith)
+from_place [] k v e = cc
 from_place (c ∷ s) zero v e = ap (λ x. x ∷ s) e
 from_place (c ∷ s) (suc k) v e = let n : suc k + 1 ≡ suc (k + 1) = omega arith in from_place s k v e ∙ ap (λ x. variable v ∷ drop x (c ∷ s)) (sym n)
 
