@@ -1,4 +1,4 @@
--- What matching a pattern against a row leaves of a list of bindings. Assumes nothing.
+-- The substitutions that agree with a list of bindings to parts of a row. Assumes nothing.
 use Rattle.std.specs.Prelude.{◌≡◌, ℕ, List, take, drop, Some}
 use Rattle.cells.specs.Cells.{Cell, variable, word, row}
 use Rattle.cells.specs.Rows.{Whole}

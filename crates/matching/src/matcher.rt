@@ -18,10 +18,10 @@ fn extend_by(w: u32, target: &[u32], at: usize, list: &mut Bindings) -> Option<u
     let end = term_end(target, at)?;
     match list.find(w) {
         Some(part) => (clipped(target, part) == &target[at..end]).then_some(end),
-        None => list
-            .push(w, Part { at, len: end - at })
-            .is_ok()
-            .then_some(end),
+        None => {
+            let part = Part { at, len: end - at };
+            list.push(w, part).is_ok().then_some(end)
+        }
     }
 }
 

@@ -53,8 +53,6 @@ impl Bindings {
     pub fn truncate(&mut self, n: usize)
         ensures { bindings_list self.new ≡ take n (bindings_list self.old) }
     {
-        if n < self.len {
-            self.len = n;
-        }
+        self.len = self.len.min(n);
     }
 }
