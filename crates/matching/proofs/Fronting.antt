@@ -17,6 +17,10 @@ part_rest cs at e l =
     let z : at + (e - at) ≡ e = omega arith in
     sym (take-append-drop (e - at) (drop at cs)) ∙ ap (λ x. between at e cs ++ x) (drop-drop (e - at) at cs ∙ ap (λ n. drop n cs) z)
 
+-- what something stands behind is a front
+pub front_of : (x r t : List Cell) → x ++ r ≡ t → x ≡ take (length x) t
+front_of x r t e = sym (take_at x r (length x) refl) ∙ ap (take (length x)) e
+
 -- σ agrees with the bindings, and s turned by it, with r behind it, is what stands at the position
 abbrev pub Open : List ℕ → List Binding → List Cell → List Cell → ℕ → (ℕ → List Cell) → Type 0
 Open source b s r at σ = Agrees source b σ × (substitute σ s ++ r ≡ drop at (row source))
@@ -49,8 +53,7 @@ module _ (source : List ℕ) (b b' : List Binding) (s : List Cell) (at e : ℕ) 
   module _ (m : Matched source b s at e b') (σ : ℕ → List Cell) (p : Substitution σ) where
     pub taken : (r : List Cell) → Open source b s r at σ → Agrees source b' σ × (r ≡ drop e (row source))
     taken r o =
-        let x = substitute σ s in
-        let f = m.only σ p o.0 (length x) (sym (take_at x r (length x) refl) ∙ ap (take (length x)) o.1) in
+        let f = m.only σ p o.0 (length (substitute σ s)) (front_of (substitute σ s) r (drop at (row source)) o.1) in
         ((m.exact σ p).0 (o.0, f), append_cancel_left (between at e (row source)) r (drop e (row source)) (ap (λ z. z ++ r) (sym f) ∙ o.1 ∙ part_rest (row source) at e m.order))
 
     given : Agrees source b' σ → Open source b s (drop e (row source)) at σ
@@ -81,7 +84,7 @@ module _ (source : List ℕ) (b b' : List Binding) (s t : List Cell) (at mid : �
       let whole = ap (λ z. z ++ left) (sym (substitute_append σ (s ++ t) u) ∙ x) ∙ take-append-drop k (drop at (row source)) in
       let o = sym (joined σ r) ∙ sym (append_assoc (substitute σ (s ++ t)) (substitute σ u) left) ∙ whole in
       let y = taken source b b' s at mid m σ p (substitute σ t ++ r) (a, o) in
-      n σ p y.0 (length (substitute σ t)) (sym (take_at (substitute σ t) r (length (substitute σ t)) refl) ∙ ap (take (length (substitute σ t))) y.1)
+      n σ p y.0 (length (substitute σ t)) (front_of (substitute σ t) r (drop mid (row source)) y.1)
 
 module _ (source : List ℕ) (b b' b'' : List Binding) (s t : List Cell) (at mid : ℕ) (h : FrontMatched source b s at (Some mid) b') where
   pub front_more : (e : ℕ) → FrontMatched source b' t mid (Some e) b'' → FrontMatched source b (s ++ t) at (Some e) b''

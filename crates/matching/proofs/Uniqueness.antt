@@ -11,7 +11,7 @@ use Rattle.matching.specs.declared.finding.Asked.TheVariants as asked
 use Rattle.matching.specs.declared.finding.Found.{Found}
 use Rattle.matching.specs.declared.fault.MatchFault.{MatchFault}
 use Rattle.matching.specs.declared.fault.MatchFault.TheVariants.{Left, Formula}
-use Rattle.matching.specs.Pairs.{GoodPair, PairFault}
+use Rattle.matching.specs.Pairs.{PairFault}
 use Rattle.matching.specs.Bound.{BindingAnswer, First, BoundAt, BindsIf, AskedBinding, seen, OneBindingAnswer}
 use Rattle.matching.proofs.Stepping.{same_parts}
 use Rattle.matching.proofs.Pairing.{one_pair_answer}
@@ -24,10 +24,7 @@ front_occurs : (s : List Cell) (k v : ℕ) → Occurs (take k s) v → Occurs s 
 front_occurs s k v (j, e) =
     ⊎_elim
     (λ l. (j, sym (get_or-take k s j (symbol 0 0) l) ∙ e))
-    (λ past.
-    let n = length-take k s in
-    let d = get_or_past (take k s) j (symbol 0 0) (omega arith) in
-    cc)
+    (λ past. let d = get_or_past (take k s) j (symbol 0 0) (omega (arith, length-take k s)) in cc)
     (cases_lt j k)
 
 one_bound : (s t : List Cell) (v m n : ℕ) (p q : List Cell) → BoundAt s t v m p → BoundAt s t v n q → (m ≡ n) × (p ≡ q)
@@ -57,18 +54,12 @@ one_asked (asked.Variant v) l f x y a b = one_binding _ (row l) f v.0 x y a b
 one_asked (asked.Instance v) l f x y a b = one_binding _ (row f) l v.0 x y a b
 one_asked asked.Unifiable l f x y a b = ap (λ z. seen (Ok z)) (a ∙ sym b)
 
-module _ (l f : List ℕ) where
-  passes : (e : MatchFault) → GoodPair l f → PairFault l f e → ⊥
-  passes e a b =
-      let h = one_pair_answer l f (Ok tt) (Err e) a b in
-      cc
-
 fault : (q : Asked) (l f : List ℕ) (e : MatchFault) → BindingAnswer q l f (Err e) → PairFault l f e
 fault q l f (Left e) h = h
 fault q l f (Formula e) h = h
 
 pub one_binding_answer : OneBindingAnswer
 one_binding_answer q l f (Ok x) (Ok y) a b = one_asked q l f x y a.2 b.2
-one_binding_answer q l f (Ok x) (Err e) a b = absurd (passes l f e (record { left = a.0; formula = a.1 }) (fault q l f e b))
-one_binding_answer q l f (Err e) (Ok y) a b = absurd (passes l f e (record { left = b.0; formula = b.1 }) (fault q l f e a))
+one_binding_answer q l f (Ok x) (Err e) a b = let h = one_pair_answer l f (Ok tt) (Err e) (record { left = a.0; formula = a.1 }) (fault q l f e b) in cc
+one_binding_answer q l f (Err e) (Ok y) a b = let h = one_pair_answer l f (Err e) (Ok tt) (fault q l f e a) (record { left = b.0; formula = b.1 }) in cc
 one_binding_answer q l f (Err e) (Err g) a b = let h = one_pair_answer l f (Err e) (Err g) (fault q l f e a) (fault q l f g b) in ap (λ z. Err z) (cc)

@@ -1,10 +1,11 @@
 -- Where what is put for a pattern's variable stands in the row that it becomes. Assumes nothing.
-use Rattle.std.proofs.Common.{◌≡◌, ℕ, zero, suc, ◌+◌, ◌-◌, ◌<◌, List, [], ◌∷◌, ◌++◌, length, take, drop, Some, None, Option, sym, refl, ap, ◌∙◌, subst, arith, length-append, length-drop, take-append-drop}
+use Rattle.std.proofs.Common.{◌≡◌, ℕ, ◌+◌, ◌-◌, ◌<◌, List, [], ◌∷◌, ◌++◌, length, take, drop, Some, None, Option, sym, refl, ⊎_elim, ap, ◌∙◌, subst, arith, length-append, length-drop, take-append-drop}
 use lib.ListN.{length-map}
 use Rattle.std.specs.List.{between, AllWithin, HoldsAt}
 use Rattle.std.specs.Option.{IsSome, MatchOption}
-use Rattle.std.proofs.lemmas.List.{take_at, take-map}
-use Rattle.cells.specs.Cells.{Cell, variable, cell, row}
+use Rattle.std.proofs.lemmas.Bool.{cases_lt}
+use Rattle.std.proofs.lemmas.List.{take-map, drop_more, get_or_past}
+use Rattle.cells.specs.Cells.{Cell, symbol, variable, cell, row}
 use Rattle.cells.specs.Rows.{Whole, Stands, Occurs, Ends}
 use Rattle.cells.specs.Substitutions.{substitute}
 use Rattle.cells.proofs.Listing.{stands_word, word_stands}
@@ -15,7 +16,7 @@ use Rattle.matching.specs.Relations.{Turns, General}
 use Rattle.matching.specs.Walking.{Reached}
 use Rattle.matching.specs.Bound.{First, BoundAt}
 use Rattle.matching.specs.Fronts.{FrontMatched}
-use Rattle.matching.proofs.Fronting.{taken}
+use Rattle.matching.proofs.Fronting.{front_of, taken}
 use Rattle.matching.proofs.Stepping.{rest}
 use Rattle.matching.proofs.Generality.{nothing}
 
@@ -39,8 +40,7 @@ module _ (ps target : List ℕ) (k : ℕ) (b b' : List Binding) (none : b ≡ []
   front_some (Some e) h g = refl
   front_some None h (σ, t) =
       let x = substitute σ (take k (row ps)) in
-      let e = sym (take_at x (substitute σ (drop k (row ps))) (length x) refl) ∙ ap (take (length x)) (parts (row ps) (row target) k σ t) in
-      absurd ((front None h).1 σ t.whole (nothing target σ) (length x) e)
+      absurd ((front None h).1 σ t.whole (nothing target σ) (length x) (front_of x (substitute σ (drop k (row ps))) (row target) (parts (row ps) (row target) k σ t)))
 
   pub reached : (e : ℕ) → FrontMatched target b (row (take k ps)) 0 (Some e) b' → Reached (row ps) target k e
   reached e h =
@@ -52,9 +52,7 @@ module _ (ps target : List ℕ) (k : ℕ) (b b' : List Binding) (none : b ≡ []
 
 -- what a variable's place leaves of the row
 from_place : (s : List Cell) (k v : ℕ) → Stands s k v → drop k s ≡ variable v ∷ drop (k + 1) s
-from_place [] k v e = cc
-from_place (c ∷ s) zero v e = ap (λ x. x ∷ s) e
-from_place (c ∷ s) (suc k) v e = let n : suc k + 1 ≡ suc (k + 1) = omega arith in from_place s k v e ∙ ap (λ x. variable v ∷ drop x (c ∷ s)) (sym n)
+from_place s k v e = ⊎_elim (λ l. drop_more s k (symbol 0 0) l ∙ ap (λ c. c ∷ drop (k + 1) s) e) (λ past. let d = get_or_past s k (symbol 0 0) past in cc) (cases_lt k (length s))
 
 module _ (s : List Cell) (target : List ℕ) (k v at : ℕ) (f : First s v k) (r : Reached s target k at) where
   -- what is put for v begins there
@@ -81,5 +79,5 @@ module _ (s : List Cell) (target : List ℕ) (k v at : ℕ) (f : First s v k) (r
   ends_some (Some e) h g = refl
   ends_some None none (σ, t) =
       let n : at + length (σ v) - at ≡ length (σ v) = omega arith in
-      let same = sym (take_at (σ v) (substitute σ (drop (k + 1) s)) (length (σ v)) refl) ∙ ap (take (length (σ v))) (begins σ t) ∙ ap (λ n. take n (drop at (row target))) (sym n) in
+      let same = front_of (σ v) (substitute σ (drop (k + 1) s)) (drop at (row target)) (begins σ t) ∙ ap (λ n. take n (drop at (row target))) (sym n) in
       absurd (none (at + length (σ v)) (subst Whole same (t.whole v)))
