@@ -14,6 +14,7 @@ use Rattle.substitution.specs.declared.bindings.Binding.{Binding}
 use Rattle.substitution.specs.Bindings.{lookup, part_of, bound_in}
 use Rattle.matching.specs.Relations.{General}
 use Rattle.matching.specs.Extending.{part, Agrees, AllWhole}
+use Rattle.matching.proofs.Longer.{cut_back}
 use Rattle.matching.specs.Fronts.{Longer, Matched, FrontMatched, Fits}
 
 pub none_bound : (w : ℕ) (p : Part) → lookup [] w ≡ Some p → ⊥
@@ -69,3 +70,6 @@ module _ (source : List ℕ) (s : List Cell) (b : List Binding) where
         eq-eqb e (length source) (omega arith)),
   )
   decided None h = ((λ t. absurd (false≢true t)), (λ (σ, t). absurd (h.1 σ t.whole (nothing source σ) (length source) (t.makes ∙ sym all))))
+
+-- what a trial keeps of a match
+pub ruleset tried = (fits_by, longer_by, cut_back)

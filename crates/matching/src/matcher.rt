@@ -39,6 +39,7 @@ pub fn match_front(pattern: &[u32], target: &[u32], at: usize, list: &mut Bindin
 }
 
 // Where the part of the target ends that the pattern can become at a place under the bindings at hand, which stay as they are.
+#[tactic(auto, using(crate::proofs::Generality::tried))]
 pub fn fits_at(pattern: &[u32], target: &[u32], at: usize, list: &mut Bindings) -> Option<usize>
     requires room { length (bindings_list list.old) + length pattern.now ≤ 256 }
     ensures answer { Fits target.now (bindings_list list.old) (row pattern.now) at result }

@@ -16,7 +16,7 @@ pub struct Binding {
 }
 
 // At most 256 bindings, in the order in which they were made. The first one of a variable counts.
-// An array and a length, since std's lists with a fixed room cannot be copied.
+// An array and a length rather than an ArrayVec, which cannot be copied.
 #[derive(Clone, Copy, Drop)]
 pub struct Bindings {
     items: [Binding; 256],
