@@ -1,18 +1,21 @@
 -- From the form of a memory's rows to the common form of a left side and a formula. Assumes nothing.
-use Rattle.std.proofs.Common.{◌≡◌, ℕ, ◌<◌, ◌≤◌, true, List, ◌++◌, map, length, sym, ap, ◌∙◌, subst, inl, inr, ⊎_elim, arith}
+use Rattle.std.proofs.Common.{◌≡◌, ℕ, ◌<◌, ◌≤◌, Bool, true, List, ◌++◌, map, length, sym, ap, ◌∙◌, subst, inl, inr, ⊎_elim, arith, length-take}
+use Rattle.std.specs.Prelude as prelude
 use Rattle.cells.specs.Cells.{row, AllCells}
 use Rattle.cells.specs.Rows.{Whole}
-use Rattle.matching.specs.Relations.{Common}
+use Rattle.cells.specs.Records.{row_words}
+use Rattle.cells.specs.declared.row.Row.{Row}
+use Rattle.matching.specs.Relations.{Unifiable, Common}
 use Rattle.unification.specs.Codes.{tagged, code, AllPlain}
-use Rattle.unification.specs.Rows.{put}
+use Rattle.unification.specs.Rows.{put, Relates}
 use Rattle.unification.specs.Graph.{val}
-use Rattle.unification.specs.Memory.{term_at, bound, Memory, over}
-use Rattle.unification.specs.Close.{General}
+use Rattle.unification.specs.Memory.{need, term_at, bound, Memory, over}
+use Rattle.unification.specs.Close.{General, Decides}
 use Rattle.unification.specs.Number as number
 use Rattle.unification.specs.Forms.{Formed}
-use Rattle.unification.proofs.RelFacts.{first, second, two_rows}
-use Rattle.unification.proofs.BridgeFacts.{joint, joint_whole, left_put, right_put}
-use Rattle.unification.proofs.TagFacts.{low_row, left_wholes, right_wholes, tagged_same, left_length}
+use Rattle.unification.proofs.RelFacts.{first, second, two_rows, relates}
+use Rattle.unification.proofs.BridgeFacts.{joint, joint_whole, left_put, right_put, unified}
+use Rattle.unification.proofs.TagFacts.{low_row, left_wholes, right_wholes, tagged_same, left_length, memory_length}
 use Rattle.unification.proofs.CommonFacts.{form_of, form_words, form_length, form_variables, form_common}
 use Rattle.unification.proofs.PlainFacts.{plain_memory, made_plain}
 
@@ -79,3 +82,28 @@ module _ (l f mem : List ℕ) (e : mem ≡ map (tagged 0x90000000) (row l) ++ f)
       formed l f p q u v low out r
       (subst (λ m. number.Common (over true true true m) 0 (length (map (tagged 0x90000000) (row l))) out r) e
       (subst (λ n. number.Common (over true true true mem) 0 n out r) (sym (left_length l f mem e)) C))
+
+  pub memory_decided : (r : Bool) → Decides (over true true true mem) 0 (length l) r → prelude.Decides r (Unifiable (row l) (row f))
+  memory_decided r D =
+      unified (row l) (row f) (low_row l p) (low_row f q) r
+      (subst (λ y. Relates bound need (map (tagged 0x90000000) (row l)) y r) (sym (tagged_same f))
+      (relates true true true (map (tagged 0x90000000) (row l)) f (left_wholes l p u) (right_wholes f q v) low r
+      (subst (λ m. Decides (over true true true m) 0 (length (map (tagged 0x90000000) (row l))) r) e
+      (subst (λ n. Decides (over true true true mem) 0 n r) (sym (left_length l f mem e)) D))))
+
+-- of checked rows
+module _ (x : Row 60) (y : Row 256) (mem : List ℕ) (e : mem ≡ map (tagged 0x90000000) (row (row_words x)) ++ row_words y) where
+  short : length mem < 0x80000000
+  short =
+      let a = length-take x.count x.cells in
+      let b = length-take y.count y.cells in
+      omega (arith, memory_length (row_words x) (row_words y) mem e, x.fits, y.fits)
+
+  pub pair_memory : Memory mem
+  pair_memory = memory_holds (row_words x) (row_words y) mem e x.good y.good x.whole y.whole short
+
+  pub pair_decided : (r : Bool) → Decides (over true true true mem) 0 (length (row_words x)) r → prelude.Decides r (Unifiable (row (row_words x)) (row (row_words y)))
+  pair_decided r D = memory_decided (row_words x) (row_words y) mem e x.good y.good x.whole y.whole short r D
+
+  pub pair_formed : (out : List ℕ) (r : ℕ) → number.Common (over true true true mem) 0 (length (row_words x)) out r → Formed (row (row_words x)) (row (row_words y)) out r
+  pair_formed out r C = memory_formed (row_words x) (row_words y) mem e x.good y.good x.whole y.whole short out r C

@@ -1,6 +1,6 @@
 -- The words of a left side and of a formula, tagged. Assumes nothing.
-use Rattle.std.proofs.Common.{◌≡◌, ℕ, suc, ◌+◌, ◌-◌, ◌*◌, ◌/◌, ◌%◌, ◌<◌, ◌≤◌, Bool, cond, ltb, List, [], ◌∷◌, ◌++◌, map, length, get_or, take, drop, Decides, sym, refl, ap, ◌∙◌, subst, ap₂, ⊎_elim, arith}
-use Rattle.std.proofs.lemmas.List.{length-map, length-append, take_at, drop_at, take_more, map_push}
+use Rattle.std.proofs.Common.{◌≡◌, ℕ, suc, ◌+◌, ◌-◌, ◌*◌, ◌/◌, ◌%◌, ◌<◌, ◌≤◌, cond, ltb, List, [], ◌∷◌, ◌++◌, map, length, sym, refl, ap, ◌∙◌, subst, ap₂, ⊎_elim, arith}
+use Rattle.std.proofs.lemmas.List.{length-map, length-append}
 use Rattle.std.proofs.lemmas.Nat.{div-add-mod', div_below, mod_below}
 use Rattle.std.proofs.lemmas.Bool.{and_from, lt-ltb, cases_lt}
 use Rattle.cells.specs.Cells.{Cell, symbol, cell, row, IsCell, AllCells}
@@ -8,10 +8,9 @@ use Rattle.cells.specs.Rows.{Whole}
 use Rattle.cells.proofs.Terms.{terms_reads}
 use Rattle.cells.proofs.Words.{cell_symbol, cell_variable, is_cell_cases}
 use Rattle.unification.specs.Codes.{place, code, tagged, Low}
-use Rattle.matching.specs.Relations.{Unifiable}
-use Rattle.unification.specs.Memory.{need, bound}
-use Rattle.unification.specs.Rows.{Wholes, Relates}
-use Rattle.unification.proofs.BridgeFacts.{tagged_wholes, unified}
+use Rattle.unification.specs.Memory.{need}
+use Rattle.unification.specs.Rows.{Wholes}
+use Rattle.unification.proofs.BridgeFacts.{tagged_wholes}
 
 code_word : (w : ℕ) → w < 0x80000000 → code (symbol (w / 65536) (w % 65536)) ≡ w
 code_word w h =
@@ -51,17 +50,6 @@ left_wholes ws h w = tagged_wholes 0x90000000 (omega arith) (omega arith) 1 (row
 pub right_wholes : (ws : List ℕ) → AllCells ws → Whole (row ws) → Wholes need 1 ws
 right_wholes ws h w = subst (Wholes need 1) (tagged_same ws) (tagged_wholes 0x80000000 (omega arith) (omega arith) 1 (row ws) (low_row ws h) (terms_reads 1 (row ws) w))
 
-pub whole_cells : (ws : List ℕ) → Whole (row ws) → 0 < length ws
-whole_cells [] w = let h = terms_reads 1 [] w in absurd (omega arith)
-whole_cells (x ∷ ws) w = omega arith
-
--- one more word of the left side
-pub tagged_more : (base : ℕ) (ws : List ℕ) (i : ℕ) → i < length ws → map (tagged base) (row (take (i + 1) ws)) ≡ map (tagged base) (row (take i ws)) ++ tagged base (cell (get_or ws i 0)) ∷ []
-tagged_more base ws i h =
-    ap (λ x. map (tagged base) (row x)) (take_more ws i 0 h)
-    ∙ ap (map (tagged base)) (map_push cell (take i ws) (get_or ws i 0))
-    ∙ map_push (tagged base) (row (take i ws)) (cell (get_or ws i 0))
-
 -- a left side and a formula in one memory
 module _ (l f mem : List ℕ) (e : mem ≡ map (tagged 0x90000000) (row l) ++ f) where
   pub left_length : length (map (tagged 0x90000000) (row l)) ≡ length l
@@ -69,18 +57,3 @@ module _ (l f mem : List ℕ) (e : mem ≡ map (tagged 0x90000000) (row l) ++ f)
 
   pub memory_length : length mem ≡ length l + length f
   memory_length = ap length e ∙ length-append (map (tagged 0x90000000) (row l)) f ∙ ap (λ n. n + length f) left_length
-
-  pub memory_left : take (length l) mem ≡ map (tagged 0x90000000) (row l)
-  memory_left = ap (take (length l)) e ∙ take_at (map (tagged 0x90000000) (row l)) f (length l) left_length
-
-  pub memory_right : drop (length l) mem ≡ f
-  memory_right = ap (drop (length l)) e ∙ drop_at (map (tagged 0x90000000) (row l)) f (length l) left_length
-
-  pub decided : AllCells l → AllCells f → (r : Bool) → Relates bound need (take (length l) mem) (drop (length l) mem) r → Decides r (Unifiable (row l) (row f))
-  decided p q r R =
-      unified (row l) (row f) (low_row l p) (low_row f q) r
-      (subst (λ y. Relates bound need (map (tagged 0x90000000) (row l)) y r) (memory_right ∙ sym (tagged_same f))
-      (subst (λ x. Relates bound need x (drop (length l) mem) r) memory_left R))
-
-pub memory_part : (l f cells : List ℕ) → take (length l + length f) cells ≡ map (tagged 0x90000000) (row l) ++ f → take (length l + length f - 0) cells ≡ map (tagged 0x90000000) (row l) ++ f
-memory_part l f cells e = let z : length l + length f - 0 ≡ length l + length f = omega arith in ap (λ n. take n cells) z ∙ e

@@ -1,10 +1,10 @@
--- What writing the common form answers. Assumes nothing.
-use Rattle.std.specs.Prelude.{◌≡◌, ℕ, ◌<◌, ◌≤◌, ◌⊎◌, List, ◌++◌, length, take, drop}
+-- What writing the common form of checked rows answers. Assumes nothing.
+use Rattle.std.specs.Prelude.{◌≡◌, ℕ, ◌<◌, ◌≤◌, ◌⊎◌, List, ◌++◌, length, take, drop, Some, None, Ok, Err, Option, Result}
 use Rattle.cells.specs.Cells.{Cell, words}
 use Rattle.cells.specs.Variables.{variables}
 use Rattle.matching.specs.Relations.{Unifiable, Common}
-use Rattle.unification.specs.declared.forming.CommonForm.{CommonForm}
-use Rattle.unification.specs.declared.forming.CommonForm.TheVariants.{None, Written, TooLarge, ShortBuffer}
+use Rattle.unification.specs.declared.fault.FormFault.{FormFault}
+use Rattle.unification.specs.declared.fault.FormFault.TheVariants.{ShortBuffer, Rows, TooLarge}
 
 -- a common form that fits: n cells, at most 256, and at most 64 variables
 pub record Fitting (s t c : List Cell) (n : ℕ) : Type 0 where
@@ -24,15 +24,14 @@ pub record Formed (s t : List Cell) (out : List ℕ) (r : ℕ) : Type 0 where
   pub form : 0 < r → r ≤ 256 → (c : List Cell) × Fitting s t c r × (take r out ≡ words c)
   pub over : 256 < r → (c : List Cell) × Passing s t c
 
--- in a buffer with room for 256 cells; `old` is what it held, and `new` what it holds then
-abbrev pub FormWritten : List Cell → List Cell → List ℕ → List ℕ → CommonForm → Type 0
-FormWritten s t old new None = (new ≡ old) × (Unifiable s t → ⊥)
-FormWritten s t old new (Written n) = (c : List Cell) × Fitting s t c n × (new ≡ words c ++ drop n old)
-FormWritten s t old new TooLarge = (new ≡ old) × ((c : List Cell) × Passing s t c)
-FormWritten s t old new (ShortBuffer n) = ⊥
+-- `old` is what the buffer held, and `new` what it holds then; only a form that fits is written
+abbrev pub FormAnswer : List Cell → List Cell → List ℕ → List ℕ → Result (Option ℕ) FormFault → Type 0
+FormAnswer s t old new (Ok None) = (256 ≤ length old) × (new ≡ old) × (Unifiable s t → ⊥)
+FormAnswer s t old new (Ok (Some n)) = (256 ≤ length old) × ((c : List Cell) × Fitting s t c n × (new ≡ words c ++ drop n old))
+FormAnswer s t old new (Err TooLarge) = (256 ≤ length old) × (new ≡ old) × ((c : List Cell) × Passing s t c)
+FormAnswer s t old new (Err (ShortBuffer n)) = (n ≡ length old) × (n < 256) × (new ≡ old)
+FormAnswer s t old new (Err (Rows e)) = ⊥
 
-abbrev pub FormAnswer : List Cell → List Cell → List ℕ → List ℕ → CommonForm → Type 0
-FormAnswer s t old new None = (256 ≤ length old) × (new ≡ old) × (Unifiable s t → ⊥)
-FormAnswer s t old new (Written n) = (256 ≤ length old) × ((c : List Cell) × Fitting s t c n × (new ≡ words c ++ drop n old))
-FormAnswer s t old new TooLarge = (256 ≤ length old) × (new ≡ old) × ((c : List Cell) × Passing s t c)
-FormAnswer s t old new (ShortBuffer n) = (n ≡ length old) × (n < 256) × (new ≡ old)
+-- the call has one answer for each input, and leaves the buffer in one way
+abbrev pub OneFormAnswer : Type 0
+OneFormAnswer = (s t : List Cell) (old new new' : List ℕ) (x y : Result (Option ℕ) FormFault) → FormAnswer s t old new x → FormAnswer s t old new' y → (x ≡ y) × (new ≡ new')

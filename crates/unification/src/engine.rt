@@ -4,7 +4,6 @@ ghost use Rattle.unification.specs.Graph.{find, norm, Sat};
 ghost use Rattle.unification.specs.Codes.{is_var};
 ghost use Rattle.unification.specs.Memory.{need, binds, size, cell_at, places_from, Has, Memory, over};
 ghost use Rattle.unification.specs.Number.{index_of, named, Wrote, Common};
-ghost use Rattle.unification.specs.Rows.{Wholes, Relates};
 ghost use Rattle.unification.specs.Finite.{Open, Done, Fin};
 ghost use Rattle.unification.specs.Close.{Fit, Out, Solved, Decides};
 
@@ -306,19 +305,6 @@ pub fn write_rows(
         }
     }
     write_rows(cells, k, b, names, out, next, end(cells, i), n - 1)
-}
-
-// The relation of two rows, one behind the other.
-pub fn related(cells: &[u32], cut: u32, k: Kinds, b: &mut Bindings, marks: &mut [u8]) -> bool
-    requires small { length cells.now ≤ 512 }
-    requires low { cut < length cells.now }
-    requires left { Wholes need 1 (take cut cells.now) }
-    requires right { Wholes need 1 (drop cut cells.now) }
-    requires sheet { length cells.now ≤ length marks.old }
-    requires blank { (o : ℕ) → slice_index marks.old o ≡ 0 }
-    ensures { Relates (binds k.formula k.rule k.tree) need (take cut cells.now) (drop cut cells.now) result }
-{
-    unifiable(cells, k, b, marks, 0, cut)
 }
 
 // The common form of the rows at p and q, numbered, into a scratch buffer: 0 for none, its length, or 257 for one that does not fit.

@@ -10,5 +10,5 @@ mod theorems;
 
 pub use deciding::is_unifiable;
 pub use fault::FormFault;
-pub use forming::{CommonForm, common_form, write_common_form};
+pub use forming::{common_form, write_common_form};
 pub use theorems::unification_laws;

@@ -1,10 +1,12 @@
 // A left side and a formula in one memory.
-ghost use Rattle.std.specs.Prelude.{◌≡◌, ℕ, ◌+◌, ◌≤◌, ◌++◌, map, length, take, slice_index};
-ghost use Rattle.cells.specs.Cells.{AllCells, IsCell, cell, row};
+ghost use Rattle.std.specs.Prelude.{◌≡◌, ℕ, ◌++◌, map, length, slice_index};
+ghost use Rattle.cells.specs.Cells.{IsCell, cell, row};
+ghost use Rattle.cells.specs.Records.{row_words};
 ghost use Rattle.unification.specs.Codes.{tagged};
 
 use crate::engine::{Bindings, Names};
-use cells::VARIABLE;
+use arrayvec::ArrayVec;
+use cells::{Formula, RuleSide, VARIABLE};
 
 // The word of a left side's cell, with its variable as a rule variable.
 fn rule_word(w: u32) -> u32
@@ -15,20 +17,14 @@ fn rule_word(w: u32) -> u32
 }
 
 // The left side, and behind it the formula.
-pub fn joined(left: &[u32], formula: &[u32]) -> [u32; 316]
-    requires short { length left.now ≤ 60 }
-    requires fits { length formula.now ≤ 256 }
-    requires good { AllCells left.now }
-    ensures { take (length left.now + length formula.now) result ≡ map (tagged 0x90000000) (row left.now) ++ formula.now }
+pub fn joined(left: &RuleSide, formula: &Formula) -> ArrayVec<u32, 316>
+    ensures { result.items ≡ map (tagged 0x90000000) (row (row_words left.now)) ++ row_words formula.now }
 {
-    let mut cells = [0; 316];
-    for (i, w) in left.iter().enumerate() {
-        cells[i] = rule_word(*w);
+    let mut cells = ArrayVec::new();
+    for w in left.cells() {
+        cells.push(rule_word(*w));
     }
-    let cut = left.len();
-    for (j, w) in formula.iter().enumerate() {
-        cells[cut + j] = *w;
-    }
+    cells.try_extend_from_slice(formula.cells()).unwrap();
     cells
 }
 
