@@ -1,8 +1,9 @@
 -- A new link between two places that stand for themselves leaves the list in order, with room. Assumes nothing.
-use Rattle.std.proofs.Common.{◌≡◌, ℕ, zero, suc, ◌+◌, ◌<◌, ◌≤◌, Bool, true, false, cond, T, eqb, ◌≢◌, ◌⊎◌, [], ◌∷◌, ◌++◌, length, sym, refl, ap, ◌∙◌, subst, ap₂, inl, inr, true≢false, le_refl, add-one, arith, eqb→eq, length-append}
+use Rattle.std.proofs.Common.{◌≡◌, ℕ, zero, suc, ◌+◌, ◌<◌, ◌≤◌, Bool, true, false, cond, ◌&&◌, T, eqb, ◌≢◌, ◌⊎◌, [], ◌∷◌, ◌++◌, length, sym, refl, ap, ◌∙◌, subst, ap₂, inl, inr, ⊎_elim, true≢false, le_refl, add-one, arith, eqb→eq, length-append}
+use Rattle.std.proofs.lemmas.Bool.{false≢true, eqb-true, eq-eqb, cases_eq, and_parts, and_from, or_cases, or_left, or_right}
 use lib.Dec.{eqb_refl}
-use Rattle.unification.specs.Graph.{Graph, Links, follow, find, canon}
-use Rattle.unification.specs.Close.{roots, Place, Ends, Fit}
+use Rattle.unification.specs.Graph.{Graph, Laws, Links, follow, find, canon, norm}
+use Rattle.unification.specs.Close.{roots, is_place, Place, is_between, Fit}
 use Rattle.unification.proofs.LinkFacts.{find_append, follow_cases}
 
 pub follow_same : (x y : ℕ) → follow (x, y) x ≡ y
@@ -100,32 +101,84 @@ module _ (G : Graph) (L : Links) (x y : ℕ) (ne : x ≢ y) (again : (a : ℕ) �
           let b = bit_le (canon G n) in
           omega arith
 
-pub ends_append : (G : Graph) (n : ℕ) (L M : Links) → Ends G n L → Ends G n M → Ends G n (L ++ M)
-ends_append G n [] M h g = g
-ends_append G n (l ∷ L) M h g = (h.0, ends_append G n L M h.1 g)
+pub place_from : (G : Graph) (n at a : ℕ) → at < n → canon G at ≡ a → Place G n a
+place_from G zero at a h e = let z : ⊥ = omega arith in absurd z
+place_from G (suc n) at a h e =
+    ⊎_elim
+    (λ s. or_left (eqb (canon G n) a) (is_place G n a) (eq-eqb (canon G n) a (ap (canon G) (sym s) ∙ e)))
+    (λ ne. or_right (eqb (canon G n) a) (is_place G n a) (place_from G n at a (omega arith) e))
+    (cases_eq at n)
+
+pub place_at : (G : Graph) (n a : ℕ) → Place G n a → (at : ℕ) × (at < n) × (canon G at ≡ a)
+place_at G zero a P = absurd (false≢true P)
+place_at G (suc n) a P =
+    ⊎_elim
+    (λ e. (n, omega arith, eqb-true (canon G n) a e))
+    (λ Q. let r = place_at G n a Q in (r.0, omega (arith, r.1), r.2))
+    (or_cases (eqb (canon G n) a) (is_place G n a) P)
+
+-- the first link, and the others
+pub between_parts : (G : Graph) (n : ℕ) (l : ℕ × ℕ) (L : Links) → is_between G n (l ∷ L) ≡ true → Place G n l.0 × Place G n l.1 × (is_between G n L ≡ true)
+between_parts G n l L h =
+    let a = and_parts (is_place G n l.0 && is_place G n l.1) (is_between G n L) h in
+    let b = and_parts (is_place G n l.0) (is_place G n l.1) a.0 in
+    (b.0, b.1, a.1)
+
+between_more : (G : Graph) (n : ℕ) (L : Links) (x y : ℕ) → is_between G n L ≡ true → Place G n x → Place G n y → is_between G n (L ++ ((x, y) ∷ [])) ≡ true
+between_more G n [] x y h p q = and_from (is_place G n x && is_place G n y) true (and_from (is_place G n x) (is_place G n y) p q) refl
+between_more G n (l ∷ L) x y h p q =
+    let a = and_parts (is_place G n l.0 && is_place G n l.1) (is_between G n L) h in
+    and_from (is_place G n l.0 && is_place G n l.1) (is_between G n (L ++ ((x, y) ∷ []))) a.0 (between_more G n L x y a.1 p q)
 
 -- what a place comes to is a place
-pub find_place : (G : Graph) (n : ℕ) (L : Links) (a : ℕ) → Ends G n L → Place G n a → Place G n (find L a)
+pub find_place : (G : Graph) (n : ℕ) (L : Links) (a : ℕ) → is_between G n L ≡ true → Place G n a → Place G n (find L a)
 find_place G n [] a h p = p
-find_place G n (l ∷ L) a h p = find_place G n L (follow l a) h.1 (go (follow_cases l a))
+find_place G n (l ∷ L) a h p = find_place G n L (follow l a) ends.2 (go (follow_cases l a))
   where
+    ends : Place G n l.0 × Place G n l.1 × (is_between G n L ≡ true)
+    ends = between_parts G n l L h
+
     go : ((a ≡ l.0) × (follow l a ≡ l.1)) ⊎ (follow l a ≡ a) → Place G n (follow l a)
-    go (inl w) = subst (Place G n) (sym w.1) h.0.1
+    go (inl w) = subst (Place G n) (sym w.1) ends.1
     go (inr e) = subst (Place G n) (sym e) p
+
+pub norm_place : (G : Graph) (n : ℕ) (L : Links) → is_between G n L ≡ true → (i : ℕ) → i < n → Place G n (norm G L i)
+norm_place G n L b i h = find_place G n L (canon G i) b (place_from G n i (canon G i) h refl)
+
+-- a place whose cell is not bound is one of the first n
+pub place_node : (G : Graph) → Laws G → (n x : ℕ) → Place G n x → G.is_v (G.cell x) ≡ false → x < n
+place_node G W n x P v = go (G.is_v (G.cell at)) refl
+  where
+    at : ℕ
+    at = (place_at G n x P).0
+
+    is : canon G at ≡ x
+    is = (place_at G n x P).2
+
+    go : (b : Bool) → G.is_v (G.cell at) ≡ b → x < n
+    go true e =
+        let s : G.cell at ≡ x = sym (ap (λ b. cond b (G.cell at) at) e) ∙ is in
+        let b : G.is_v x ≡ true = subst (λ k. G.is_v k ≡ true) s e in
+        absurd (true≢false (sym (ap G.is_v (W.var_node x b) ∙ b) ∙ v))
+    go false e =
+        let s : at ≡ x = sym (ap (λ b. cond b (G.cell at) at) e) ∙ is in
+        subst (λ k. k < n) s (place_at G n x P).1
 
 module _ (G : Graph) (n cap : ℕ) (L : Links) (F : Fit G n cap L) (x y : ℕ) (ne : x ≢ y) (rx : find L x ≡ x) (ry : find L y ≡ y) (px : Place G n x) (py : Place G n y) where
   -- there is room for one link more
   pub room_more : length L < cap
   room_more =
-      let f = roots_fall G L x y ne F.again rx ry n px.at px.low px.is in
+      let P = place_at G n x px in
+      let f = roots_fall G L x y ne F.again rx ry n P.0 P.1 P.2 in
       omega (arith, F.room)
 
   pub fit_more : Fit G n cap (L ++ ((x, y) ∷ []))
   fit_more = record {
     again = again_more G L x y ne F.again rx ry;
-    ends = ends_append G n L ((x, y) ∷ []) F.ends ((px, py), tt);
+    ends = between_more G n L x y F.ends px py;
     room =
-        let f = roots_fall G L x y ne F.again rx ry n px.at px.low px.is in
+        let P = place_at G n x px in
+        let f = roots_fall G L x y ne F.again rx ry n P.0 P.1 P.2 in
         let l = length-append L ((x, y) ∷ []) in
         omega (arith, F.room);
   }
@@ -135,4 +188,4 @@ roots_none G zero = refl
 roots_none G (suc n) = ap₂ (λ a b. a + cond b 1 0) (roots_none G n) (eqb_true (canon G n) (canon G n) refl) ∙ add-one n
 
 pub fit_none : (G : Graph) (n cap : ℕ) → n ≤ cap → Fit G n cap []
-fit_none G n cap h = record { again = λ a. refl; ends = tt; room = omega (arith, roots_none G n) }
+fit_none G n cap h = record { again = λ a. refl; ends = refl; room = omega (arith, roots_none G n) }

@@ -1,19 +1,15 @@
 -- What is written is the most general common row. Assumes nothing.
-use Rattle.std.proofs.Common.{◌≡◌, ℕ, ◌<◌, ◌≤◌, true, List, [], ◌∷◌, ◌++◌, length, sym, refl, ap, ◌∙◌, subst, le_refl, zero-add, arith}
-use Rattle.unification.specs.Graph.{Graph, Laws, Links, Sols, Made, norm, val, SameVal, Closed, Sol}
+use Rattle.std.proofs.Common.{◌≡◌, ℕ, ◌≤◌, true, List, [], ◌∷◌, ◌++◌, length, Some, None, Ok, Err, sym, refl, ap, ap₂, ◌∙◌, subst, subst₂, le_refl}
+use Rattle.unification.specs.declared.fault.FormFault.TheVariants.{TooLarge}
+use Rattle.unification.specs.declared.form.Form.{Form}
+use Rattle.unification.specs.Graph.{Graph, Laws, Links, Sols, Made, norm, val, Closed, Sol}
 use Rattle.unification.specs.Graph.Sols.{none, more}
-use Rattle.unification.specs.Close.{Out, WholeFor, General, Solved}
-use Rattle.unification.specs.Number.{number, after, Wrote, Common}
+use Rattle.unification.specs.Close.{Out, General, Solved}
+use Rattle.unification.specs.Number.{number, after, Over, Written, Wrote, Common}
 use Rattle.unification.proofs.SolFacts.{sols_unique, sol_node, sol_whole, sol_solves, sol_general}
 use Rattle.unification.proofs.SolveFacts.{row_of, row_of_sol}
 
-module _ (G : Graph) (W : Laws G) (n cap : ℕ) (p q : ℕ) (L : Links) (out out' ms' : List ℕ) where
-  pub form_none : ((σ : ℕ → List ℕ) → WholeFor G σ → SameVal G σ p q → ⊥) → Common G p q out 0
-  form_none f = record { none = λ e. f; form = λ h. (let z : ⊥ = omega arith in absurd z); over = λ h. (let z : ⊥ = omega arith in absurd z) }
-
-  long : {ps row : List ℕ} → Sols G L (p ∷ ps) row → 0 < length row
-  long (more s t) = omega arith
-
+module _ (G : Graph) (W : Laws G) (n cap : ℕ) (p q : ℕ) (L : Links) where
   made_append : (a b : List ℕ) → Made G a → Made G b → Made G (a ++ b)
   made_append [] b h k = k
   made_append (x ∷ a) b h k = (h.0, made_append a b h.1 k)
@@ -43,24 +39,20 @@ module _ (G : Graph) (W : Laws G) (n cap : ℕ) (p q : ℕ) (L : Links) (out out
       here : Sol G L p (val G σ p)
       here = sol_node G L W closed σ (row_of_sol G W L S) (length (G.term p)) p (le_refl _)
 
-  pub form_some : Out G n cap [] L (p ∷ []) (q ∷ []) true → Solved G L → (r : ℕ) → Wrote G L (p ∷ []) 0 [] out ms' out' r → Common G p q out' r
-  form_some O S r R =
+  pub form_some : Out G n cap [] L (p ∷ []) (q ∷ []) true → Solved G L → (old new : Form) → old.cells.items ≡ [] → old.names.items ≡ [] → Written G L (p ∷ []) old new → Common G p q (Ok (Some new))
+  form_some O S old new c m R =
       let (g, here, made) = found O S in
+      let e : R.row ≡ val G g.σ p = sols_unique G L R.sols here in
+      let names : new.names.items ≡ after G.is_v [] (val G g.σ p) = R.names ∙ ap₂ (after G.is_v) m e in
       record {
-        none = λ e.
-            (let k : r ≤ 256 = omega arith in
-            let w = R.fits k in
-            let l = long w.sols in
-            let z : ⊥ = omega (arith, w.end) in absurd z);
-        form = λ h k.
-            let w = R.fits k in
-            let e : w.row ≡ val G g.σ p = sols_unique G L w.sols here in
-            record {
-              g = g;
-              made = made;
-              long = w.end ∙ zero-add (length w.row) ∙ ap length e;
-              text = w.text ∙ ap (number G.is_v []) e;
-              few = subst (λ x. length x ≤ 64) (w.names ∙ ap (after G.is_v []) e) w.few;
-            };
-        over = λ h. record { g = g; made = made; over = R.over h (val G g.σ p) here };
+        g = g;
+        made = made;
+        text = R.text ∙ ap₂ (λ x y. x ++ number G.is_v old.names.items y) c e ∙ ap (λ ms. number G.is_v ms (val G g.σ p)) m;
+        within = new.within;
+        few = subst (λ x. length x ≤ 64) names new.few;
       }
+
+  pub form_over : Out G n cap [] L (p ∷ []) (q ∷ []) true → Solved G L → (old new : Form) → old.cells.items ≡ [] → old.names.items ≡ [] → Wrote G L (p ∷ []) old new None → Common G p q (Err TooLarge)
+  form_over O S old new c m R =
+      let (g, here, made) = found O S in
+      record { g = g; made = made; over = subst₂ (λ x y. Over G.is_v x y (val G g.σ p)) c m (R (val G g.σ p) here) }

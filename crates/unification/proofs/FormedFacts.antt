@@ -1,15 +1,20 @@
 -- From the form of a memory's rows to the common form of a left side and a formula. Assumes nothing.
-use Rattle.std.proofs.Common.{◌≡◌, ℕ, ◌<◌, ◌≤◌, Bool, true, List, ◌++◌, map, length, sym, ap, ◌∙◌, subst, inl, inr, ⊎_elim, arith, length-take}
+use Rattle.std.proofs.Common.{◌≡◌, ℕ, ◌<◌, ◌≤◌, Bool, List, ◌++◌, map, length, Some, None, Ok, Err, Option, Result, sym, ap, ◌∙◌, subst, subst₂, inl, inr, ⊎_elim, arith, length-take}
 use Rattle.std.specs.Prelude as prelude
-use Rattle.cells.specs.Cells.{row, AllCells}
+use Rattle.std.proofs.lemmas.List.{length-map}
+use Rattle.cells.specs.Cells.{word, row, AllCells}
 use Rattle.cells.specs.Rows.{Whole}
 use Rattle.cells.specs.Records.{row_words}
 use Rattle.cells.specs.declared.row.Row.{Row}
 use Rattle.matching.specs.Relations.{Unifiable, Common}
+use Rattle.unification.specs.declared.fault.FormFault.{FormFault}
+use Rattle.unification.specs.declared.fault.FormFault.TheVariants.{ShortBuffer, Rows, TooLarge}
+use Rattle.unification.specs.declared.form.Form.{Form}
+use Rattle.unification.specs.declared.kinds.Kinds.{Kinds}
 use Rattle.unification.specs.Codes.{tagged, code, AllPlain}
 use Rattle.unification.specs.Rows.{put, Relates}
 use Rattle.unification.specs.Graph.{val}
-use Rattle.unification.specs.Memory.{need, term_at, bound, Memory, over}
+use Rattle.unification.specs.Memory.{need, term_at, all_kinds, bound, Memory, over}
 use Rattle.unification.specs.Close.{General, Decides}
 use Rattle.unification.specs.Number as number
 use Rattle.unification.specs.Forms.{Formed}
@@ -21,14 +26,14 @@ use Rattle.unification.proofs.PlainFacts.{plain_memory, made_plain}
 
 module _ (l f : List ℕ) (p : AllCells l) (q : AllCells f) (u : Whole (row l)) (v : Whole (row f)) (h : length (map (tagged 0x90000000) (row l) ++ f) < 0x80000000) where
   one : term_at (map (tagged 0x90000000) (row l) ++ f) 0 ≡ map (tagged 0x90000000) (row l)
-  one = first true true true (map (tagged 0x90000000) (row l)) f (left_wholes l p u) (right_wholes f q v) h
+  one = first all_kinds (map (tagged 0x90000000) (row l)) f (left_wholes l p u) (right_wholes f q v) h
 
   two : term_at (map (tagged 0x90000000) (row l) ++ f) (length (map (tagged 0x90000000) (row l))) ≡ map (tagged 0x80000000) (row f)
-  two = second true true true (map (tagged 0x90000000) (row l)) f (left_wholes l p u) (right_wholes f q v) h ∙ sym (tagged_same f)
+  two = second all_kinds (map (tagged 0x90000000) (row l)) f (left_wholes l p u) (right_wholes f q v) h ∙ sym (tagged_same f)
 
-  module _ (g : General (over true true true (map (tagged 0x90000000) (row l) ++ f)) 0 (length (map (tagged 0x90000000) (row l))))
-      (m : AllPlain (val (over true true true (map (tagged 0x90000000) (row l) ++ f)) g.σ 0)) where
-    common_of : Common (row l) (row f) (form_of (val (over true true true (map (tagged 0x90000000) (row l) ++ f)) g.σ 0))
+  module _ (g : General (over all_kinds (map (tagged 0x90000000) (row l) ++ f)) 0 (length (map (tagged 0x90000000) (row l))))
+      (m : AllPlain (val (over all_kinds (map (tagged 0x90000000) (row l) ++ f)) g.σ 0)) where
+    common_of : Common (row l) (row f) (form_of (val (over all_kinds (map (tagged 0x90000000) (row l) ++ f)) g.σ 0))
     common_of =
         subst (λ x. Common (row l) (row f) (form_of (put bound g.σ x))) (sym one)
         (form_common (row l) (row f) (low_row l p) (low_row f q) g.σ g.whole
@@ -39,35 +44,34 @@ module _ (l f : List ℕ) (p : AllCells l) (q : AllCells f) (u : Whole (row l)) 
         ∙ ap (put bound τ) one)
         (subst (λ x. AllPlain (put bound g.σ x)) one m))
 
-  pub formed : (out : List ℕ) (r : ℕ) → number.Common (over true true true (map (tagged 0x90000000) (row l) ++ f)) 0 (length (map (tagged 0x90000000) (row l))) out r
-      → Formed (row l) (row f) out r
-  formed out r C = record {
-    none = λ e (σ, τ, c, a, b).
-        C.none e (joint σ τ) (λ x k. joint_whole σ τ a.whole b.whole x)
-        (ap (put bound (joint σ τ)) one
-        ∙ left_put (row l) (row f) (low_row l p) (low_row f q) σ τ
-        ∙ ap (map code) (a.makes ∙ sym b.makes)
-        ∙ sym (right_put (row l) (row f) (low_row l p) (low_row f q) σ τ)
-        ∙ ap (put bound (joint σ τ)) (sym two));
-    form = λ z k.
-        let F = C.form z k in
-        let R = val (over true true true (map (tagged 0x90000000) (row l) ++ f)) F.g.σ 0 in
-        let m = made_plain (map (tagged 0x90000000) (row l) ++ f) (plain_memory l f p q) R F.made in (
-          form_of R,
-          record { common = common_of F.g m; long = F.long ∙ form_length R m; within = k; few = subst (λ n. n ≤ 64) (form_variables R m) F.few },
-          F.text ∙ form_words R m,
-        );
-    over = λ k.
-        let F = C.over k in
-        let R = val (over true true true (map (tagged 0x90000000) (row l) ++ f)) F.g.σ 0 in
-        let m = made_plain (map (tagged 0x90000000) (row l) ++ f) (plain_memory l f p q) R F.made in (
-          form_of R,
-          record {
-            common = common_of F.g m;
-            over = ⊎_elim (λ x. inl (omega (arith, form_length R m))) (λ x. inr (subst (λ n. 64 < n) (form_variables R m) x)) F.over;
-          },
-        );
-  }
+  pub formed : (r : Result (Option Form) FormFault) → number.Common (over all_kinds (map (tagged 0x90000000) (row l) ++ f)) 0 (length (map (tagged 0x90000000) (row l))) r
+      → Formed (row l) (row f) r
+  formed (Ok None) C = λ (σ, τ, c, a, b).
+      C (joint σ τ) (λ x k. joint_whole σ τ a.whole b.whole x)
+      (ap (put bound (joint σ τ)) one
+      ∙ left_put (row l) (row f) (low_row l p) (low_row f q) σ τ
+      ∙ ap (map code) (a.makes ∙ sym b.makes)
+      ∙ sym (right_put (row l) (row f) (low_row l p) (low_row f q) σ τ)
+      ∙ ap (put bound (joint σ τ)) (sym two))
+  formed (Ok (Some form)) C =
+      let R = val (over all_kinds (map (tagged 0x90000000) (row l) ++ f)) C.g.σ 0 in
+      let m = made_plain (map (tagged 0x90000000) (row l) ++ f) (plain_memory l f p q) R C.made in
+      let text = C.text ∙ form_words R m in (
+        form_of R,
+        record { common = common_of C.g m; long = ap length text ∙ length-map (form_of R) word; within = C.within; few = subst (λ n. n ≤ 64) (form_variables R m) C.few },
+        text,
+      )
+  formed (Err TooLarge) C =
+      let R = val (over all_kinds (map (tagged 0x90000000) (row l) ++ f)) C.g.σ 0 in
+      let m = made_plain (map (tagged 0x90000000) (row l) ++ f) (plain_memory l f p q) R C.made in (
+        form_of R,
+        record {
+          common = common_of C.g m;
+          over = ⊎_elim (λ x. inl (omega (arith, form_length R m))) (λ x. inr (subst (λ n. 64 < n) (form_variables R m) x)) C.over;
+        },
+      )
+  formed (Err (ShortBuffer n)) C = absurd C
+  formed (Err (Rows e)) C = absurd C
 
 -- in a memory that holds the two
 module _ (l f mem : List ℕ) (e : mem ≡ map (tagged 0x90000000) (row l) ++ f) (p : AllCells l) (q : AllCells f) (u : Whole (row l)) (v : Whole (row f)) (h : length mem < 0x80000000) where
@@ -77,19 +81,19 @@ module _ (l f mem : List ℕ) (e : mem ≡ map (tagged 0x90000000) (row l) ++ f)
   pub memory_holds : Memory mem
   memory_holds = subst Memory (sym e) (two_rows (map (tagged 0x90000000) (row l)) f (left_wholes l p u) (right_wholes f q v) low)
 
-  pub memory_formed : (out : List ℕ) (r : ℕ) → number.Common (over true true true mem) 0 (length l) out r → Formed (row l) (row f) out r
-  memory_formed out r C =
-      formed l f p q u v low out r
-      (subst (λ m. number.Common (over true true true m) 0 (length (map (tagged 0x90000000) (row l))) out r) e
-      (subst (λ n. number.Common (over true true true mem) 0 n out r) (sym (left_length l f mem e)) C))
+  pub memory_formed : (r : Result (Option Form) FormFault) → number.Common (over all_kinds mem) 0 (length l) r → Formed (row l) (row f) r
+  memory_formed r C =
+      formed l f p q u v low r
+      (subst (λ m. number.Common (over all_kinds m) 0 (length (map (tagged 0x90000000) (row l))) r) e
+      (subst (λ n. number.Common (over all_kinds mem) 0 n r) (sym (left_length l f mem e)) C))
 
-  pub memory_decided : (r : Bool) → Decides (over true true true mem) 0 (length l) r → prelude.Decides r (Unifiable (row l) (row f))
+  pub memory_decided : (r : Bool) → Decides (over all_kinds mem) 0 (length l) r → prelude.Decides r (Unifiable (row l) (row f))
   memory_decided r D =
       unified (row l) (row f) (low_row l p) (low_row f q) r
       (subst (λ y. Relates bound need (map (tagged 0x90000000) (row l)) y r) (sym (tagged_same f))
-      (relates true true true (map (tagged 0x90000000) (row l)) f (left_wholes l p u) (right_wholes f q v) low r
-      (subst (λ m. Decides (over true true true m) 0 (length (map (tagged 0x90000000) (row l))) r) e
-      (subst (λ n. Decides (over true true true mem) 0 n r) (sym (left_length l f mem e)) D))))
+      (relates all_kinds (map (tagged 0x90000000) (row l)) f (left_wholes l p u) (right_wholes f q v) low r
+      (subst (λ m. Decides (over all_kinds m) 0 (length (map (tagged 0x90000000) (row l))) r) e
+      (subst (λ n. Decides (over all_kinds mem) 0 n r) (sym (left_length l f mem e)) D))))
 
 -- of checked rows
 module _ (x : Row 60) (y : Row 256) (mem : List ℕ) (e : mem ≡ map (tagged 0x90000000) (row (row_words x)) ++ row_words y) where
@@ -102,8 +106,13 @@ module _ (x : Row 60) (y : Row 256) (mem : List ℕ) (e : mem ≡ map (tagged 0x
   pub pair_memory : Memory mem
   pair_memory = memory_holds (row_words x) (row_words y) mem e x.good y.good x.whole y.whole short
 
-  pub pair_decided : (r : Bool) → Decides (over true true true mem) 0 (length (row_words x)) r → prelude.Decides r (Unifiable (row (row_words x)) (row (row_words y)))
-  pair_decided r D = memory_decided (row_words x) (row_words y) mem e x.good y.good x.whole y.whole short r D
+  module _ (kinds : Kinds) (n : ℕ) (ek : kinds ≡ all_kinds) (en : n ≡ length (row_words x)) where
+    pub pair_decided : (r : Bool) → Decides (over kinds mem) 0 n r → prelude.Decides r (Unifiable (row (row_words x)) (row (row_words y)))
+    pair_decided r D =
+        memory_decided (row_words x) (row_words y) mem e x.good y.good x.whole y.whole short r
+        (subst₂ (λ k n. Decides (over k mem) 0 n r) ek en D)
 
-  pub pair_formed : (out : List ℕ) (r : ℕ) → number.Common (over true true true mem) 0 (length (row_words x)) out r → Formed (row (row_words x)) (row (row_words y)) out r
-  pair_formed out r C = memory_formed (row_words x) (row_words y) mem e x.good y.good x.whole y.whole short out r C
+    pub pair_formed : (r : Result (Option Form) FormFault) → number.Common (over kinds mem) 0 n r → Formed (row (row_words x)) (row (row_words y)) r
+    pair_formed r C =
+        memory_formed (row_words x) (row_words y) mem e x.good y.good x.whole y.whole short r
+        (subst₂ (λ k n. number.Common (over k mem) 0 n r) ek en C)

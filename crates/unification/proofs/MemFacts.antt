@@ -1,6 +1,6 @@
 -- The places of a memory obey the laws of a graph. Assumes nothing.
 use Rattle.std.proofs.Common.{◌≡◌, ℕ, zero, suc, pred, ◌+◌, ◌-◌, ◌/◌, ◌<◌, ◌≤◌, Bool, true, false, cond, ◌&&◌, ltb, leb, List, [], ◌∷◌, ◌++◌, length, get_or, take, drop, sym, refl, ap, ◌∙◌, subst, ap₂, add-zero, zero-add, arith, length-drop, get_or-drop, drop-cons, drop-drop, take-add}
-use Rattle.std.proofs.lemmas.Bool.{lt-ltb, lt-leb}
+use Rattle.std.proofs.lemmas.Bool.{false≢true, lt-ltb, lt-leb}
 use Rattle.cells.specs.Cells.{arity}
 use Rattle.unification.specs.Rows.{Wholes}
 use Rattle.unification.specs.Graph.{Laws, flat}
@@ -8,15 +8,15 @@ use Rattle.unification.specs.Codes.{is_var, high_cell}
 use Rattle.unification.specs.Memory.{Has, need, size, or_var, from, cell_at, term_at, places_from, kids_at, graph, Memory}
 
 pub has_all : (cs : List ℕ) (k : ℕ) → Wholes need k cs → Has k cs
-has_all [] zero h = tt
+has_all [] zero h = refl
 has_all [] (suc k) h = let z : ⊥ = omega arith in absurd z
-has_all (c ∷ cs) zero h = tt
+has_all (c ∷ cs) zero h = refl
 has_all (c ∷ cs) (suc k) h = has_all cs (k + need c) h.1
 
 pub has_fewer : (cs : List ℕ) (j k : ℕ) → Has (j + k) cs → Has j cs
-has_fewer [] zero k h = tt
+has_fewer [] zero k h = refl
 has_fewer [] (suc j) k h = let e : suc j + k ≡ suc (j + k) = omega arith in subst (λ n. Has n []) e h
-has_fewer (c ∷ cs) zero k h = tt
+has_fewer (c ∷ cs) zero k h = refl
 has_fewer (c ∷ cs) (suc j) k h =
     let e : suc j + k ≡ suc (j + k) = omega arith in
     let g : Has (j + k + need c) cs = subst (λ n. Has n (c ∷ cs)) e h in
@@ -26,14 +26,14 @@ has_fewer (c ∷ cs) (suc j) k h =
 -- the first k rows are k whole rows
 pub has_wholes : (cs : List ℕ) (k : ℕ) → Has k cs → Wholes need k (take (size k cs) cs)
 has_wholes [] zero h = refl
-has_wholes [] (suc k) h = absurd h
+has_wholes [] (suc k) h = absurd (false≢true h)
 has_wholes (c ∷ cs) zero h = refl
 has_wholes (c ∷ cs) (suc k) h = ((let z : 0 < suc k = omega arith in z), has_wholes cs (k + need c) h)
 
 -- j rows and then k rows
 pub has_drop : (cs : List ℕ) (j k : ℕ) → Has (j + k) cs → Has k (drop (size j cs) cs)
 has_drop [] zero k h = subst (λ n. Has n []) (zero-add k) h
-has_drop [] (suc j) k h = let e : suc j + k ≡ suc (j + k) = omega arith in absurd (subst (λ n. Has n []) e h)
+has_drop [] (suc j) k h = let e : suc j + k ≡ suc (j + k) = omega arith in absurd (false≢true (subst (λ n. Has n []) e h))
 has_drop (c ∷ cs) zero k h = subst (λ n. Has n (c ∷ cs)) (zero-add k) h
 has_drop (c ∷ cs) (suc j) k h =
     let e : suc j + k ≡ suc (j + k) = omega arith in
@@ -47,7 +47,7 @@ size_zero (c ∷ cs) = refl
 
 pub size_add : (cs : List ℕ) (j k : ℕ) → Has (j + k) cs → size (j + k) cs ≡ size j cs + size k (drop (size j cs) cs)
 size_add [] zero k h = refl
-size_add [] (suc j) k h = let e : suc j + k ≡ suc (j + k) = omega arith in absurd (subst (λ n. Has n []) e h)
+size_add [] (suc j) k h = let e : suc j + k ≡ suc (j + k) = omega arith in absurd (false≢true (subst (λ n. Has n []) e h))
 size_add (c ∷ cs) zero k h = ap (λ n. size n (c ∷ cs)) (zero-add k) ∙ sym (zero-add (size k (c ∷ cs)))
 size_add (c ∷ cs) (suc j) k h =
     let e : suc j + k ≡ suc (j + k) = omega arith in
@@ -117,7 +117,7 @@ module _ (mem : List ℕ) (M : Memory mem) where
     where
       go : ((q' : ℕ) → Has k (drop q' mem) → flat (term_at mem) (places_from mem q' k) ≡ take (size k (drop q' mem)) (drop q' mem)) →
           (D : List ℕ) → drop q mem ≡ D → Has (suc k) D → flat (term_at mem) (places_from mem q (suc k)) ≡ take (size (suc k) (drop q mem)) (drop q mem)
-      go rec [] e g = absurd g
+      go rec [] e g = absurd (false≢true g)
       go rec (c ∷ cs) e g =
           let D = drop q mem in
           let m = size 1 D in
@@ -142,7 +142,7 @@ module _ (mem : List ℕ) (M : Memory mem) where
       where
         low : (D : List ℕ) → drop p mem ≡ D → Wholes need 1 (take (size 1 (or_var D)) (or_var D))
         low [] e = single 0x80000000 var_zero
-        low (c ∷ cs) e = has_wholes (c ∷ cs) 1 (subst (Has 1) e (suffix_has mem M.rows p M.whole (drop_lt mem p c cs e)))
+        low (c ∷ cs) e = has_wholes (c ∷ cs) 1 (subst (Has 1) e (M.whole p (drop_lt mem p c cs e)))
 
         go : (b : Bool) → is_var p ≡ b → Wholes need 1 (take (size 1 (cond b (p ∷ []) (or_var (drop p mem)))) (cond b (p ∷ []) (or_var (drop p mem))))
         go true e = single p e
@@ -158,7 +158,7 @@ module _ (mem : List ℕ) (M : Memory mem) where
         low [] e = no_kids p 0x80000000 var_zero
         low (c ∷ cs) e =
             let t : drop (p + 1) mem ≡ cs = drop_tail mem p c cs e in
-            let h : Has 1 (c ∷ cs) = subst (Has 1) e (suffix_has mem M.rows p M.whole (drop_lt mem p c cs e)) in
+            let h : Has 1 (c ∷ cs) = subst (Has 1) e (M.whole p (drop_lt mem p c cs e)) in
             let z : 0 + need c ≡ need c = zero-add (need c) in
             let g : Has (need c) (drop (p + 1) mem) = subst (Has (need c)) (sym t) (subst (λ k. Has k cs) z h) in
             let r = flat_places (need c) (p + 1) g ∙ ap (λ X. take (size (need c) X) X) t in
@@ -183,7 +183,7 @@ module _ (mem : List ℕ) (M : Memory mem) where
 
 pub has_le : (cs : List ℕ) (k : ℕ) → Has k cs → k ≤ length cs
 has_le [] zero h = omega arith
-has_le [] (suc k) h = absurd h
+has_le [] (suc k) h = absurd (false≢true h)
 has_le (c ∷ cs) zero h = omega arith
 has_le (c ∷ cs) (suc k) h = omega (arith, has_le cs (k + need c) h)
 
@@ -198,7 +198,7 @@ has_step mem at zero p h = let z : ⊥ = omega arith in absurd z
 has_step mem at (suc l) p h = go (drop at mem) refl h
   where
     go : (D : List ℕ) → drop at mem ≡ D → Has (suc l) D → Stepped mem at (suc l)
-    go [] e g = absurd g
+    go [] e g = absurd (false≢true g)
     go (c ∷ cs) e g =
         let t : drop (at + 1) mem ≡ cs = drop_tail mem at c cs e in
         let v : get_or mem at 0 ≡ c = ap (λ n. get_or mem n 0) (sym (add-zero at)) ∙ sym (get_or-drop at mem 0 0) ∙ ap (λ D. get_or D 0 0) e in

@@ -4,7 +4,7 @@ use Rattle.cells.specs.Cells.{cell, row, IsCell, AllCells}
 use Rattle.cells.proofs.Words.{is_cell_cases}
 use Rattle.unification.specs.Codes.{is_var, tagged, Plain, AllPlain}
 use Rattle.unification.specs.Graph.{Made}
-use Rattle.unification.specs.Memory.{or_var, cell_at, over}
+use Rattle.unification.specs.Memory.{or_var, cell_at, all_kinds, over}
 use Rattle.unification.proofs.MemFacts.{var_zero}
 use Rattle.unification.proofs.CodeFacts.{mid_var}
 use Rattle.unification.proofs.TagFacts.{tagged_symbol, tagged_variable, tagged_same}
@@ -48,6 +48,6 @@ plain_cell mem x h = go (is_var x) refl
     go true e = inl e
     go false e = plain_first (drop x mem) (plain_drop x mem h)
 
-pub made_plain : (mem : List ℕ) → AllPlain mem → (R : List ℕ) → Made (over true true true mem) R → AllPlain R
+pub made_plain : (mem : List ℕ) → AllPlain mem → (R : List ℕ) → Made (over all_kinds mem) R → AllPlain R
 made_plain mem h [] m = tt
 made_plain mem h (w ∷ R) m = (subst Plain m.0.1 (plain_cell mem m.0.0 h), made_plain mem h R m.1)

@@ -1,13 +1,13 @@
 -- Closing and solving as such, without a program: rows that one replacement makes one have a most general one. Assumes nothing.
-use Rattle.std.proofs.Common.{◌≡◌, ℕ, zero, suc, ◌+◌, ◌<◌, ◌≤◌, Bool, true, false, cond, eqb, ◌≢◌, List, [], ◌∷◌, ◌++◌, length, sym, refl, ap, ◌∙◌, subst, inl, inr, le_refl, arith, length-append}
+use Rattle.std.proofs.Common.{◌≡◌, ℕ, zero, suc, ◌+◌, ◌<◌, ◌≤◌, Bool, true, false, eqb, ◌≢◌, List, [], ◌∷◌, ◌++◌, length, sym, refl, ap, ◌∙◌, subst, inl, inr, le_refl, arith, length-append}
 use Rattle.std.proofs.lemmas.Bool.{eqb-true, eqb-false}
 use Rattle.unification.specs.Graph.{Graph, Laws, Links, find, canon, norm, In, val, SameVal, Sat, Sols, Sol, Made}
 use Rattle.unification.specs.Graph.Sols.{none, more}
 use Rattle.unification.specs.Close.{Place, Fit, Out, WholeFor, General, Solved}
 use Rattle.unification.proofs.LinkFacts.{kids_none, norm_val}
 use Rattle.unification.proofs.StepFacts.{val_sym, inside}
-use Rattle.unification.proofs.FitFacts.{find_place, room_more, fit_more, fit_none}
-use Rattle.unification.proofs.OutFacts.{true_not, out_none, out_same, out_bind, out_clash, out_down_no, out_down, out_sym}
+use Rattle.unification.proofs.FitFacts.{place_node, norm_place, room_more, fit_more, fit_none}
+use Rattle.unification.proofs.OutFacts.{out_none, out_same, out_bind, out_clash, out_down_no, out_down, out_sym}
 use Rattle.unification.proofs.SolFacts.{sols_append}
 use Rattle.unification.proofs.FormFacts.{found}
 
@@ -19,21 +19,6 @@ module _ (G : Graph) (W : Laws G) (n cap : ℕ) (inner : (x : ℕ) → x < n →
   abbrev Run : ℕ → Type 0
   Run fuel = (ps qs : List ℕ) (L : Links) → Fit G n cap L → cap ≤ length L + fuel → Below n ps → Below n qs → length ps ≡ length qs
       → (M : Links) × (r : Bool) × Out G n cap L M ps qs r
-
-  place_low : (x : ℕ) → Place G n x → G.is_v (G.cell x) ≡ false → x < n
-  place_low x P v = go (G.is_v (G.cell P.at)) refl
-    where
-      go : (b : Bool) → G.is_v (G.cell P.at) ≡ b → x < n
-      go true e =
-          let s : G.cell P.at ≡ x = sym (ap (λ b. cond b (G.cell P.at) P.at) e) ∙ P.is in
-          let b : G.is_v x ≡ true = subst (λ k. G.is_v k ≡ true) s e in
-          true_not (ap G.is_v (W.var_node x b) ∙ b) v
-      go false e =
-          let s : P.at ≡ x = sym (ap (λ b. cond b (G.cell P.at) P.at) e) ∙ P.is in
-          subst (λ k. k < n) s P.low
-
-  norm_place : (L : Links) → Fit G n cap L → (i : ℕ) → i < n → Place G n (norm G L i)
-  norm_place L F i h = find_place G n L (canon G i) F.ends (record { at = i; low = h; is = refl })
 
   norm_root : (L : Links) → Fit G n cap L → (i : ℕ) → find L (norm G L i) ≡ norm G L i
   norm_root L F i = F.again (canon G i)
@@ -59,10 +44,10 @@ module _ (G : Graph) (W : Laws G) (n cap : ℕ) (inner : (x : ℕ) → x < n →
       ry = norm_root L F j
 
       px : Place G n x
-      px = norm_place L F i hi
+      px = norm_place G n L F.ends i hi
 
       py : Place G n y
-      py = norm_place L F j hj
+      py = norm_place G n L F.ends j hj
 
       grown : (a b : ℕ) → cap ≤ length (L ++ ((a, b) ∷ [])) + fuel
       grown a b = omega (arith, length-append L ((a, b) ∷ []))
@@ -87,7 +72,7 @@ module _ (G : Graph) (W : Laws G) (n cap : ℕ) (inner : (x : ℕ) → x < n →
       same sx sy true t =
           let e = eqb-true (G.cell x) (G.cell y) t in
           let k : length (G.kids x) ≡ length (G.kids y) = W.many x ∙ ap G.need e ∙ sym (W.many y) in
-          let (M, r, O) = rec (G.kids x) (G.kids y) (L ++ ((x, y) ∷ [])) fxy (grown x y) (inner x (place_low x px sx)) (inner y (place_low y py sy)) k in
+          let (M, r, O) = rec (G.kids x) (G.kids y) (L ++ ((x, y) ∷ [])) fxy (grown x y) (inner x (place_node G W n x px sx)) (inner y (place_node G W n y py sy)) k in
           down sx sy e M r O
 
       by : (b : Bool) → G.is_v (G.cell x) ≡ b → (d : Bool) → G.is_v (G.cell y) ≡ d → (M : Links) × (r : Bool) × Out G n cap L M (i ∷ ps) (j ∷ qs) r
@@ -112,7 +97,7 @@ module _ (G : Graph) (W : Laws G) (n cap : ℕ) (inner : (x : ℕ) → x < n →
     where
       apart : norm G L i ≢ norm G L j → (k : ℕ) → fuel ≡ k → (M : Links) × (r : Bool) × Out G n cap L M (i ∷ ps) (j ∷ qs) r
       apart ne zero e =
-          absurd (omega (arith, room_more G n cap L F (norm G L i) (norm G L j) ne (norm_root L F i) (norm_root L F j) (norm_place L F i bp.0) (norm_place L F j bq.0)))
+          absurd (omega (arith, room_more G n cap L F (norm G L i) (norm G L j) ne (norm_root L F i) (norm_root L F j) (norm_place G n L F.ends i bp.0) (norm_place G n L F.ends j bq.0)))
       apart ne (suc k) e =
           let c' : cap ≤ length L + suc k = omega arith in
           part k (rec k e) i j ps qs L F c' bp.0 bq.0 bp.1 bq.1 (omega arith) ne
@@ -164,5 +149,5 @@ general_exists G W n inner p q hp hq τ w e = by (run G W n n inner n (p ∷ [])
     by : (M : Links) × (r : Bool) × Out G n n [] M (p ∷ []) (q ∷ []) r → (g : General G p q) × Made G (val G g.σ p)
     by (M, false, O) = absurd (O.refutes refl τ w tt (e, tt))
     by (M, true, O) =
-        let (g, here, made) = found G W n n p q M [] [] [] O (solved_by G W M τ (O.keeps refl τ w tt (e, tt))) in
+        let (g, here, made) = found G W n n p q M O (solved_by G W M τ (O.keeps refl τ w tt (e, tt))) in
         (g, made)

@@ -2,9 +2,9 @@
 use Rattle.std.proofs.Common.{◌≡◌, ℕ, zero, suc, ◌<◌, Bool, true, false, cond, T, eqb, ◌≢◌, ◌⊎◌, List, [], ◌∷◌, ◌++◌, length, get_or, sym, refl, ap, ◌∙◌, subst, inl, inr, arith, eqb→eq}
 use Rattle.unification.specs.Graph.{Graph, Laws, Links, follow, find, canon, norm, Joined, Sat, Closed, Sols, Sol}
 use Rattle.unification.specs.Graph.Sols.{none, more}
-use Rattle.unification.specs.Close.{Place, Ends, Out, Solved, Decides}
+use Rattle.unification.specs.Close.{Place, is_between, Out, Solved, Decides}
 use Rattle.unification.proofs.LinkFacts.{kids_none, follow_miss}
-use Rattle.unification.proofs.FitFacts.{eqb_true}
+use Rattle.unification.proofs.FitFacts.{eqb_true, between_parts}
 use Rattle.unification.proofs.OutFacts.{true_not}
 use Rattle.unification.proofs.SolFacts.{sols_joined, sol_solves, sol_general, sol_whole}
 
@@ -21,10 +21,10 @@ linked (l ∷ L) c = go (linked L c) (eqb l.0 c) refl
         let ne : l.0 ≢ c = λ s. true_not (eqb_true l.0 c s) e in
         inr (ap (find L) (follow_miss l c ne) ∙ f)
 
-pub ends_at : (G : Graph) (n : ℕ) (L : Links) (j : ℕ) → Ends G n L → j < length L → Place G n (get_or L j (0, 0)).0
+pub ends_at : (G : Graph) (n : ℕ) (L : Links) (j : ℕ) → is_between G n L ≡ true → j < length L → Place G n (get_or L j (0, 0)).0
 ends_at G n [] j h l = let z : ⊥ = omega arith in absurd z
-ends_at G n (l ∷ L) zero h k = h.0.0
-ends_at G n (l ∷ L) (suc j) h k = ends_at G n L j h.1 (omega arith)
+ends_at G n (l ∷ L) zero h k = (between_parts G n l L h).0
+ends_at G n (l ∷ L) (suc j) h k = ends_at G n L j (between_parts G n l L h).2 (omega arith)
 
 module _ (G : Graph) (W : Laws G) (L : Links) where
   pub canon_var : (c : ℕ) → G.is_v c ≡ true → canon G c ≡ c

@@ -1,5 +1,5 @@
 -- What closing a list of links under equations answers. Assumes nothing.
-use Rattle.std.specs.Prelude.{◌≡◌, ℕ, zero, suc, ◌+◌, ◌<◌, ◌≤◌, Bool, true, false, cond, List, [], ◌∷◌, ◌++◌, length, ◌==◌}
+use Rattle.std.specs.Prelude.{◌≡◌, ℕ, zero, suc, ◌+◌, ◌≤◌, Bool, true, false, cond, ◌&&◌, ◌||◌, List, [], ◌∷◌, ◌++◌, length, ◌==◌}
 use Rattle.unification.specs.Rows.{WholeAt, put}
 use Rattle.unification.specs.Graph.{Graph, Links, find, Pairs, canon, norm, Joined, val, SameVal, Sat, Closed, Sol}
 
@@ -8,19 +8,23 @@ abbrev pub roots : Graph → Links → ℕ → ℕ
 roots G L zero = 0
 roots G L (suc n) = roots G L n + cond (norm G L n == canon G n) 1 0
 
--- a place of the first n, or the variable that stands there
-pub record Place (G : Graph) (n a : ℕ) : Type 0 where
-  pub at : ℕ
-  pub low : at < n
-  pub is : canon G at ≡ a
+-- whether it is a place of the first n, or the variable that stands at one
+abbrev pub is_place : Graph → ℕ → ℕ → Bool
+is_place G zero a = false
+is_place G (suc n) a = (canon G n == a) || is_place G n a
 
-abbrev pub Ends : Graph → ℕ → Links → Type 0
-Ends G n [] = Unit {0}
-Ends G n (l ∷ L) = (Place G n l.0 × Place G n l.1) × Ends G n L
+abbrev pub Place : Graph → ℕ → ℕ → Type 0
+Place G n a = is_place G n a ≡ true
 
+-- whether each link is between two such places
+abbrev pub is_between : Graph → ℕ → Links → Bool
+is_between G n [] = true
+is_between G n (l ∷ L) = (is_place G n l.0 && is_place G n l.1) && is_between G n L
+
+-- the links are in order: each place that one leads to stands for itself, and there is room for a link from each
 pub record Fit (G : Graph) (n cap : ℕ) (L : Links) : Type 0 where
   pub again : (a : ℕ) → find L (find L a) ≡ find L a
-  pub ends : Ends G n L
+  pub ends : is_between G n L ≡ true
   pub room : length L + roots G L n ≤ cap
 
 abbrev pub WholeFor : Graph → (ℕ → List ℕ) → Type 0

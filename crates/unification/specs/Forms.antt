@@ -1,8 +1,9 @@
 -- What writing the common form of checked rows answers. Assumes nothing.
-use Rattle.std.specs.Prelude.{◌≡◌, ℕ, ◌<◌, ◌≤◌, ◌⊎◌, List, ◌++◌, length, take, drop, Some, None, Ok, Err, Option, Result}
+use Rattle.std.specs.Prelude.{◌≡◌, ℕ, ◌<◌, ◌≤◌, ◌⊎◌, List, ◌++◌, length, drop, Some, None, Ok, Err, Option, Result}
 use Rattle.cells.specs.Cells.{Cell, words}
 use Rattle.cells.specs.Variables.{variables}
 use Rattle.matching.specs.Relations.{Unifiable, Common}
+use Rattle.unification.specs.declared.form.Form.{Form}
 use Rattle.unification.specs.declared.fault.FormFault.{FormFault}
 use Rattle.unification.specs.declared.fault.FormFault.TheVariants.{ShortBuffer, Rows, TooLarge}
 
@@ -18,11 +19,13 @@ pub record Passing (s t c : List Cell) : Type 0 where
   pub common : Common s t c
   pub over : (256 < length c) ⊎ (64 < length (variables c))
 
--- 0, the length of the form that is written, or more than 256
-pub record Formed (s t : List Cell) (out : List ℕ) (r : ℕ) : Type 0 where
-  pub none : r ≡ 0 → Unifiable s t → ⊥
-  pub form : 0 < r → r ≤ 256 → (c : List Cell) × Fitting s t c r × (take r out ≡ words c)
-  pub over : 256 < r → (c : List Cell) × Passing s t c
+-- the form that fits, that there is none, or that it does not fit
+abbrev pub Formed : List Cell → List Cell → Result (Option Form) FormFault → Type 0
+Formed s t (Ok None) = Unifiable s t → ⊥
+Formed s t (Ok (Some form)) = (c : List Cell) × Fitting s t c (length form.cells.items) × (form.cells.items ≡ words c)
+Formed s t (Err TooLarge) = (c : List Cell) × Passing s t c
+Formed s t (Err (ShortBuffer n)) = ⊥
+Formed s t (Err (Rows e)) = ⊥
 
 -- `old` is what the buffer held, and `new` what it holds then; only a form that fits is written
 abbrev pub FormAnswer : List Cell → List Cell → List ℕ → List ℕ → Result (Option ℕ) FormFault → Type 0

@@ -1,6 +1,9 @@
 -- Variables numbered in the order in which a row first has them. Assumes nothing.
-use Rattle.std.specs.Prelude.{◌≡◌, ℕ, ◌+◌, ◌<◌, ◌≤◌, Bool, cond, ◌⊎◌, List, [], ◌∷◌, ◌++◌, length, take}
+use Rattle.std.specs.Prelude.{◌≡◌, ℕ, ◌+◌, ◌<◌, ◌≤◌, Bool, cond, ◌⊎◌, List, [], ◌∷◌, ◌++◌, length, Some, None, Ok, Err, Option, Result}
 use Rattle.cells.specs.Variables.{index, include}
+use Rattle.unification.specs.declared.fault.FormFault.{FormFault}
+use Rattle.unification.specs.declared.fault.FormFault.TheVariants.{ShortBuffer, Rows, TooLarge}
+use Rattle.unification.specs.declared.form.Form.{Form}
 use Rattle.unification.specs.Graph.{Graph, Links, Sols, Made, val, SameVal}
 use Rattle.unification.specs.Close.{WholeFor, General}
 
@@ -22,38 +25,40 @@ abbrev pub after : (ℕ → Bool) → List ℕ → List ℕ → List ℕ
 after is_v ms [] = ms
 after is_v ms (c ∷ cs) = after is_v (met is_v ms c) cs
 
--- the row, written from `at` on, passes 256 cells or 64 variables
-abbrev pub Over : (ℕ → Bool) → ℕ → List ℕ → List ℕ → Type 0
-Over is_v at ms row = (256 < at + length row) ⊎ (64 < length (after is_v ms row))
+-- the row, written behind the cells, passes 256 cells or 64 variables
+abbrev pub Over : (ℕ → Bool) → List ℕ → List ℕ → List ℕ → Type 0
+Over is_v cells ms row = (256 < length cells + length row) ⊎ (64 < length (after is_v ms row))
 
-pub record Written (G : Graph) (L : Links) (ps : List ℕ) (at : ℕ) (ms out ms' out' : List ℕ) (e : ℕ) : Type 0 where
+-- the row of the places is written behind the form, with its variables numbered
+pub record Written (G : Graph) (L : Links) (ps : List ℕ) (old new : Form) : Type 0 where
   pub row : List ℕ
   pub sols : Sols G L ps row
-  pub end : e ≡ at + length row
-  pub text : take e out' ≡ take at out ++ number G.is_v ms row
-  pub names : ms' ≡ after G.is_v ms row
-  pub few : length ms' ≤ 64
+  pub text : new.cells.items ≡ old.cells.items ++ number G.is_v old.names.items row
+  pub names : new.names.items ≡ after G.is_v old.names.items row
 
--- up to 256 the end of what was written, else that there is no room
-pub record Wrote (G : Graph) (L : Links) (ps : List ℕ) (at : ℕ) (ms out ms' out' : List ℕ) (e : ℕ) : Type 0 where
-  pub fits : e ≤ 256 → Written G L ps at ms out ms' out' e
-  pub over : 256 < e → (row : List ℕ) → Sols G L ps row → Over G.is_v at ms row
+-- or there is no room for it
+abbrev pub Wrote : Graph → Links → List ℕ → Form → Form → Option (Unit {0}) → Type 0
+Wrote G L ps old new (Some u) = Written G L ps old new
+Wrote G L ps old new None = (row : List ℕ) → Sols G L ps row → Over G.is_v old.cells.items old.names.items row
 
--- the numbered row of one replacement fits, or passes 256 cells or 64 variables
-pub record Form (G : Graph) (p q : ℕ) (out : List ℕ) (r : ℕ) : Type 0 where
+-- the numbered row of a most general replacement is written
+pub record Numbered (G : Graph) (p q : ℕ) (cells : List ℕ) : Type 0 where
   pub g : General G p q
   pub made : Made G (val G g.σ p)
-  pub long : r ≡ length (val G g.σ p)
-  pub text : take r out ≡ number G.is_v [] (val G g.σ p)
+  pub text : cells ≡ number G.is_v [] (val G g.σ p)
+  pub within : length cells ≤ 256
   pub few : length (after G.is_v [] (val G g.σ p)) ≤ 64
 
+-- or passes 256 cells or 64 variables
 pub record Passes (G : Graph) (p q : ℕ) : Type 0 where
   pub g : General G p q
   pub made : Made G (val G g.σ p)
-  pub over : Over G.is_v 0 [] (val G g.σ p)
+  pub over : Over G.is_v [] [] (val G g.σ p)
 
--- 0 where no replacement makes one row of p and q; else the length of the numbered most general such row, which is written, or more than 256 where it does not fit
-pub record Common (G : Graph) (p q : ℕ) (out : List ℕ) (r : ℕ) : Type 0 where
-  pub none : r ≡ 0 → (σ : ℕ → List ℕ) → WholeFor G σ → SameVal G σ p q → ⊥
-  pub form : 0 < r → r ≤ 256 → Form G p q out r
-  pub over : 256 < r → Passes G p q
+-- or no replacement makes one row of p and q
+abbrev pub Common : Graph → ℕ → ℕ → Result (Option Form) FormFault → Type 0
+Common G p q (Ok None) = (σ : ℕ → List ℕ) → WholeFor G σ → SameVal G σ p q → ⊥
+Common G p q (Ok (Some form)) = Numbered G p q form.cells.items
+Common G p q (Err TooLarge) = Passes G p q
+Common G p q (Err (ShortBuffer n)) = ⊥
+Common G p q (Err (Rows e)) = ⊥

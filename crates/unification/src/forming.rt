@@ -6,36 +6,19 @@ ghost use Rattle.unification.specs.declared.fault.FormFault.TheVariants.{ShortBu
 ghost use Rattle.unification.specs.Forms.{Formed, FormAnswer};
 ghost use Rattle.unification.specs.FormsOfRows.{RowsFormAnswer};
 
-use crate::engine::{Kinds, write_form};
 use crate::fault::FormFault;
-use crate::memory::{joined, no_links, no_names, unmarked};
+use crate::form::Form;
+use crate::kinds::Kinds;
+use crate::memory::joined;
+use crate::unifier::Unifier;
 use cells::{Formula, RuleSide};
 use matching::check_pair;
 
-// The common form's length, with the form in the buffer; 0 if there is none, and more than 256 if it is too large.
-fn form_of(left: &RuleSide, formula: &Formula, form: &mut [u32]) -> usize
-    requires buffer { 256 ≤ length form.old }
-    ensures { Formed (row (row_words left.now)) (row (row_words formula.now)) form.new result }
+fn form_of(left: &RuleSide, formula: &Formula) -> Result<Option<Form>, FormFault>
+    ensures { Formed (row (row_words left.now)) (row (row_words formula.now)) result }
 {
     let cells = joined(left, formula);
-    let all = Kinds {
-        formula: true,
-        rule: true,
-        tree: true,
-    };
-    let mut list = no_links();
-    let mut marks = unmarked();
-    let mut names = no_names();
-    write_form(
-        cells.as_slice(),
-        all,
-        &mut list,
-        &mut marks,
-        &mut names,
-        form,
-        0,
-        left.cells().len() as u32,
-    )
+    Unifier::new(cells.as_slice(), Kinds::ALL).common_form(0, left.cells().len() as u32)
 }
 
 // A buffer with room for fewer than 256 cells is refused, whatever the form.
@@ -57,17 +40,12 @@ pub fn common_form(
     ensures { FormAnswer (row (row_words left.now)) (row (row_words formula.now)) out.old out.new result }
 {
     check_room(out)?;
-    // a buffer of its own, so that nothing is written unless all of it fits
-    let mut form = [0; 256];
-    let n = form_of(left, formula, &mut form);
-    if n == 0 {
+    let Some(form) = form_of(left, formula)? else {
         return Ok(None);
-    }
-    if n > 256 {
-        return Err(FormFault::TooLarge);
-    }
-    out[..n].copy_from_slice(&form[..n]);
-    Ok(Some(n))
+    };
+    let cells = form.cells.as_slice();
+    out[..cells.len()].copy_from_slice(cells);
+    Ok(Some(cells.len()))
 }
 
 // The same of rows as they come: the buffer is tested first, then the rows.

@@ -2,11 +2,14 @@
 #![tactic(auto)]
 
 mod deciding;
-mod engine;
 mod fault;
+mod form;
 mod forming;
+mod kinds;
+mod mark;
 mod memory;
 mod theorems;
+mod unifier;
 
 pub use deciding::is_unifiable;
 pub use fault::FormFault;

@@ -1,10 +1,9 @@
 // A left side and a formula in one memory.
-ghost use Rattle.std.specs.Prelude.{◌≡◌, ℕ, ◌++◌, map, length, slice_index};
+ghost use Rattle.std.specs.Prelude.{◌≡◌, ◌++◌, map};
 ghost use Rattle.cells.specs.Cells.{IsCell, cell, row};
 ghost use Rattle.cells.specs.Records.{row_words};
 ghost use Rattle.unification.specs.Codes.{tagged};
 
-use crate::engine::{Bindings, Names};
 use arrayvec::ArrayVec;
 use cells::{Formula, RuleSide, VARIABLE};
 
@@ -26,28 +25,4 @@ pub fn joined(left: &RuleSide, formula: &Formula) -> ArrayVec<u32, 316>
     }
     cells.try_extend_from_slice(formula.cells()).unwrap();
     cells
-}
-
-// A mark of 0 for each cell.
-pub fn unmarked() -> [u8; 316]
-    ensures long { length result ≡ 316 }
-    ensures blank { (o : ℕ) → slice_index result o ≡ 0 }
-{
-    [0; 316]
-}
-
-// No links.
-pub fn no_links() -> Bindings {
-    Bindings {
-        items: [(0, 0); 512],
-        len: 0,
-    }
-}
-
-// No variables met.
-pub fn no_names() -> Names {
-    Names {
-        words: [0; 64],
-        count: 0,
-    }
 }

@@ -1,12 +1,11 @@
-use Rattle.std.proofs.Common.{◌∙◌, true, length, ap, subst}
-use Rattle.unification.specs.Memory.{over}
-use Rattle.unification.specs.Close.{Decides}
+use Rattle.std.proofs.Common.{◌∙◌, length, ap}
 use Rattle.unification.proofs.FormedFacts.{pair_memory, pair_decided}
 use Rattle.unification.proofs.deciding.is_unifiable.Goals as goal
 
-pub unifiable-requires-clause-memory : goal.unifiable-requires-clause-memory
-unifiable-requires-clause-memory c = pair_memory c.args.left.now c.args.formula.now c.as_slice.result.now (c.as_slice.ensures.value ∙ c.joined-cells.ensures)
+pub new-requires-clause-memory : goal.new-requires-clause-memory
+new-requires-clause-memory c = pair_memory c.args.left.now c.args.formula.now c.as_slice.result.now (c.as_slice.ensures.value ∙ c.joined-cells.ensures)
 
 pub returns : goal.returns
-returns c = pair_decided c.args.left.now c.args.formula.now c.as_slice.result.now (c.as_slice.ensures.value ∙ c.joined-cells.ensures)
-    c.unifiable.result (subst (λ n. Decides (over true true true c.as_slice.result.now) 0 n c.unifiable.result) (ap length c.cells.ensures.value) c.unifiable.ensures)
+returns c =
+    pair_decided c.args.left.now c.args.formula.now c.new.result.cells.now (c.new.ensures.cells ∙ c.as_slice.ensures.value ∙ c.joined-cells.ensures)
+    c.new.result.kinds (length c.cells.result.now) c.new.ensures.kinds (ap length c.cells.ensures.value) c.unify.result c.unify.ensures.decides

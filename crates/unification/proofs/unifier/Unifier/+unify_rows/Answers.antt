@@ -1,0 +1,176 @@
+use Rattle.std.proofs.Common.{◌≡◌, ℕ, ◌+◌, ◌-◌, true, false, ◌∷◌, length, drop, lit<, sym, refl, ap, ◌∙◌, subst, subst₂, arith, length-append}
+use Rattle.unification.specs.Memory.{Has, need, size, binds, places_from, over}
+use Rattle.unification.specs.Close.{Fit, Out}
+use Rattle.unification.proofs.OutFacts.{out_none}
+use Rattle.unification.proofs.DownFacts.{law, first_low, rest_has, places_cons, kids_has, need_arity, need_small, Heads, Wrap, Headed, head_room, head_fit, back_fit, wrap_same, wrap_bind, wrap_back, wrap_down, clash, down_no, kids_out, along}
+use Rattle.unification.proofs.unifier.Unifier.+unify_rows.Goals as goal
+use Rattle.unification.proofs.unifier.Unifier.+unify_rows.Goals.{then-x-y+then-binds, then-x-y+else-binds+then-binds-2, then-x-y+else-binds+else-binds-2+else-c-d+else-not-unify_rows, else-x-y, After-head-y, After-end-l}
+
+heads : (t : ℕ) (c : After-head-y t) → Heads c.args.self.now c.args.i c.args.j c.head-x.result.0 c.head-y.result.0
+heads t c = record {
+  hi = first_low c.args.self.now.cells.now c.args.n c.args.i c.if-n-eq0.false c.requires.left;
+  hj = first_low c.args.self.now.cells.now c.args.n c.args.j c.if-n-eq0.false c.requires.right;
+  ex = c.head-x.ensures.place;
+  ey = c.head-y.ensures.place;
+}
+
+pub returns-then-n-eq0-clause-out : goal.returns-then-n-eq0-clause-out
+returns-then-n-eq0-clause-out t c =
+    let u = c.args.self.now in
+    let mem = u.cells.now in
+    let G = over u.kinds mem in
+    let L = u.links.items in
+    subst (λ n. Out G (length mem) 512 L L (places_from mem c.args.i n) (places_from mem c.args.j n) true) (sym c.if-n-eq0.true)
+    (out_none G (law mem u.memory u.kinds) (length mem) 512 L u.fit)
+
+pub push-requires : goal.push-requires
+push-requires t c = (lit< tt, head_room c.args.self.now c.args.i c.args.j c.head-x.result.0 c.head-y.result.0 (heads t (goal.at.push-requires t c).After-head-y) c.if-x-y.true)
+
+pub push-requires-then-binds-2 : goal.push-requires-then-binds-2
+push-requires-then-binds-2 t c = (lit< tt, head_room c.args.self.now c.args.i c.args.j c.head-x.result.0 c.head-y.result.0 (heads t (goal.at.push-requires-then-binds-2 t c).After-head-y) c.if-x-y.true)
+
+pub push-requires-else-c-d : goal.push-requires-else-c-d
+push-requires-else-c-d t c = (lit< tt, head_room c.args.self.now c.args.i c.args.j c.head-x.result.0 c.head-y.result.0 (heads t (goal.at.push-requires-else-c-d t c).After-head-y) c.if-x-y.true)
+
+pub invariant_of-self-clause-fit : goal.invariant_of-self-clause-fit
+invariant_of-self-clause-fit t c =
+    let u = c.args.self.now in
+    subst (Fit (over u.kinds u.cells.now) (length u.cells.now) 512) (sym c.push.ensures.items) (head_fit c.args.self.now c.args.i c.args.j c.head-x.result.0 c.head-y.result.0 (heads t (goal.at.invariant_of-self-clause-fit t c).After-head-y) c.if-x-y.true)
+
+pub invariant_of-self-then-binds-2-clause-fit : goal.invariant_of-self-then-binds-2-clause-fit
+invariant_of-self-then-binds-2-clause-fit t c =
+    let u = c.args.self.now in
+    subst (Fit (over u.kinds u.cells.now) (length u.cells.now) 512) (sym c.push-then-binds-2.ensures.items) (back_fit c.args.self.now c.args.i c.args.j c.head-x.result.0 c.head-y.result.0 (heads t (goal.at.invariant_of-self-then-binds-2-clause-fit t c).After-head-y) c.if-x-y.true)
+
+pub invariant_of-self-else-c-d-clause-fit : goal.invariant_of-self-else-c-d-clause-fit
+invariant_of-self-else-c-d-clause-fit t c =
+    let u = c.args.self.now in
+    subst (Fit (over u.kinds u.cells.now) (length u.cells.now) 512) (sym c.push-else-c-d.ensures.items) (head_fit c.args.self.now c.args.i c.args.j c.head-x.result.0 c.head-y.result.0 (heads t (goal.at.invariant_of-self-else-c-d-clause-fit t c).After-head-y) c.if-x-y.true)
+
+-- the equations, beginning with the first
+places : (t : ℕ) (c : After-head-y t) (at : ℕ) → Has c.args.n (drop at c.args.self.now.cells.now) → let mem = c.args.self.now.cells.now in
+    places_from mem at c.args.n ≡ at ∷ places_from mem (at + size 1 (drop at mem)) (c.args.n - 1)
+places t c at h = let mem = c.args.self.now.cells.now in places_cons mem c.args.n at c.if-n-eq0.false h (at + size 1 (drop at mem)) refl
+
+pub returns-then-c-d-clause-out : goal.returns-then-c-d-clause-out
+returns-then-c-d-clause-out t c =
+    let u = c.args.self.now in
+    let mem = u.cells.now in
+    let at = (goal.at.returns-then-c-d-clause-out t c).After-head-y in
+    let sx = ap (binds u.kinds) (sym c.head-x.ensures.cell) ∙ sym c.if-binds.ensures in
+    let sy = ap (binds u.kinds) (sym c.head-y.ensures.cell) ∙ sym c.if-binds-2.ensures in
+    subst₂ (λ P Q. Out (over u.kinds mem) (length mem) 512 u.links.items u.links.items P Q false) (sym (places t at c.args.i c.requires.left)) (sym (places t at c.args.j c.requires.right))
+    (clash c.args.self.now c.args.i c.args.j c.head-x.result.0 c.head-y.result.0 (heads t at) sx sy _ _ (λ e. c.if-c-d.true (c.head-x.ensures.cell ∙ e ∙ sym c.head-y.ensures.cell)))
+
+pub unify_rows-requires : goal.unify_rows-requires
+unify_rows-requires t c =
+    let u = c.args.self.now in
+    let mem = u.cells.now in
+    let at = (goal.at.unify_rows-requires t c).After-head-y in
+    let room = head_room c.args.self.now c.args.i c.args.j c.head-x.result.0 c.head-y.result.0 (heads t at) c.if-x-y.true in
+    let many = c.arity_of.ensures ∙ need_arity c.head-x.result.1 (omega arith) in
+    let mx = many ∙ ap need c.head-x.ensures.cell in
+    let my = many ∙ ap need (c.if-c-d.false ∙ c.head-y.ensures.cell) in (
+      omega (arith, c.decreases, c.push-else-c-d.ensures.len, many, need_small c.head-x.result.1 (omega arith)),
+      (
+        subst (λ k. Has k (drop (c.head-x.result.0 + 1) mem)) (sym mx) (kids_has mem u.memory u.kinds c.head-x.result.0 (c.head-x.ensures.low (sym c.if-binds.ensures))),
+        subst (λ k. Has k (drop (c.head-y.result.0 + 1) mem)) (sym my) (kids_has mem u.memory u.kinds c.head-y.result.0 (c.head-y.ensures.low (sym c.if-binds-2.ensures))),
+      ),
+    )
+
+pub returns-then-not-unify_rows-clause-out : goal.returns-then-not-unify_rows-clause-out
+returns-then-not-unify_rows-clause-out t c =
+    let u = c.args.self.now in
+    let mem = u.cells.now in
+    let at = (goal.at.returns-then-not-unify_rows-clause-out t c).After-head-y in
+    let sx = ap (binds u.kinds) (sym c.head-x.ensures.cell) ∙ sym c.if-binds.ensures in
+    let sy = ap (binds u.kinds) (sym c.head-y.ensures.cell) ∙ sym c.if-binds-2.ensures in
+    let many = c.arity_of.ensures ∙ need_arity c.head-x.result.1 (omega arith) in
+    let mx = many ∙ ap need c.head-x.ensures.cell in
+    let my = many ∙ ap need (c.if-c-d.false ∙ c.head-y.ensures.cell) in
+    let K = c.unify_rows.new.self.links.items in
+    subst₂ (λ P Q. Out (over u.kinds mem) (length mem) 512 u.links.items K P Q false) (sym (places t at c.args.i c.requires.left)) (sym (places t at c.args.j c.requires.right))
+    (down_no c.args.self.now c.args.i c.args.j c.head-x.result.0 c.head-y.result.0 (heads t at) sx sy K _ _ (kids_out c.args.self.now c.args.i c.args.j c.head-x.result.0 c.head-y.result.0 (heads t at) c.arity_of.result mx my c.push-else-c-d.new.self.items K false c.push-else-c-d.ensures.items c.if-not-unify_rows.ensures.out))
+
+-- whichever way the first equation went
+headed : (t : ℕ) (c : After-end-l t) → Heads c.args.self.now c.args.i c.args.j c.head-x.result.0 c.head-y.result.0 → Headed c.args.self.now c.if-x-y.self c.args.i c.args.j
+headed t c h =
+    let u = c.args.self.now in
+    let mem = u.cells.now in
+    let G = over u.kinds mem in
+    elim c.if-x-y.branch [
+      | then-x-y+then-binds w ↦
+          subst (λ v. Headed u v c.args.i c.args.j) (sym w.self-is) (record {
+            cells = refl;
+            kinds = refl;
+            longer = omega (arith, w.push.ensures.len);
+            wrap = subst (λ K. Wrap G (length mem) u.links.items K c.args.i c.args.j) (sym w.push.ensures.items)
+                (wrap_bind c.args.self.now c.args.i c.args.j c.head-x.result.0 c.head-y.result.0 h (ap (binds u.kinds) (sym c.head-x.ensures.cell) ∙ sym w.if-binds.ensures));
+          })
+      | then-x-y+else-binds+then-binds-2 w ↦
+          subst (λ v. Headed u v c.args.i c.args.j) (sym w.self-is) (record {
+            cells = refl;
+            kinds = refl;
+            longer = omega (arith, w.push-then-binds-2.ensures.len);
+            wrap = subst (λ K. Wrap G (length mem) u.links.items K c.args.i c.args.j) (sym w.push-then-binds-2.ensures.items)
+                (wrap_back c.args.self.now c.args.i c.args.j c.head-x.result.0 c.head-y.result.0 h (ap (binds u.kinds) (sym c.head-y.ensures.cell) ∙ sym w.if-binds-2.ensures));
+          })
+      | then-x-y+else-binds+else-binds-2+else-c-d+else-not-unify_rows w ↦
+          (let sx = ap (binds u.kinds) (sym c.head-x.ensures.cell) ∙ sym w.if-binds.ensures in
+          let sy = ap (binds u.kinds) (sym c.head-y.ensures.cell) ∙ sym w.if-binds-2.ensures in
+          let many = w.arity_of.ensures ∙ need_arity c.head-x.result.1 (omega arith) in
+          let mx = many ∙ ap need c.head-x.ensures.cell in
+          let my = many ∙ ap need (w.if-c-d.false ∙ c.head-y.ensures.cell) in
+          let K = w.unify_rows.new.self.links.items in
+          let O = w.if-not-unify_rows.ensures.out in
+          subst (λ v. Headed u v c.args.i c.args.j) (sym w.self-is) (record {
+            cells = w.unify_rows.ensures.cells;
+            kinds = w.unify_rows.ensures.kinds;
+            longer = omega (arith, w.push-else-c-d.ensures.len, ap length O.grown, length-append w.push-else-c-d.new.self.items O.new);
+            wrap = wrap_down c.args.self.now c.args.i c.args.j c.head-x.result.0 c.head-y.result.0 h sx sy (sym c.head-x.ensures.cell ∙ w.if-c-d.false ∙ c.head-y.ensures.cell) K
+                (kids_out c.args.self.now c.args.i c.args.j c.head-x.result.0 c.head-y.result.0 h w.arity_of.result mx my w.push-else-c-d.new.self.items K true w.push-else-c-d.ensures.items O);
+          }))
+      | else-x-y w ↦
+          subst (λ v. Headed u v c.args.i c.args.j) (sym w.self-is) (record {
+            cells = refl;
+            kinds = refl;
+            longer = omega arith;
+            wrap = wrap_same c.args.self.now c.args.i c.args.j c.head-x.result.0 c.head-y.result.0 h w.if-x-y.false;
+          })
+    ]
+
+-- the positions behind, in the memory as it was
+behind : (t : ℕ) (c : After-end-l t) → Headed c.args.self.now c.if-x-y.self c.args.i c.args.j → let mem = c.args.self.now.cells.now in
+    (c.end-k.result ≡ c.args.i + size 1 (drop c.args.i mem)) × (c.end-l.result ≡ c.args.j + size 1 (drop c.args.j mem))
+behind t c D = (
+  c.end-k.ensures.end ∙ ap (λ b. c.args.i + size 1 (drop c.args.i b.now)) D.cells,
+  c.end-l.ensures.end ∙ ap (λ b. c.args.j + size 1 (drop c.args.j b.now)) D.cells,
+)
+
+pub unify_rows-requires-2 : goal.unify_rows-requires-2
+unify_rows-requires-2 t c =
+    let u = c.args.self.now in
+    let here = goal.at.unify_rows-requires-2 t c in
+    let D = headed t here.After-end-l (heads t here.After-head-y) in
+    let (k, l) = behind t here.After-end-l D in (
+      omega (arith, c.decreases, D.longer),
+      (
+        subst (λ b. Has (c.args.n - 1) (drop c.end-k.result b.now)) (sym D.cells) (rest_has u.cells.now c.args.n c.args.i c.if-n-eq0.false c.requires.left c.end-k.result k),
+        subst (λ b. Has (c.args.n - 1) (drop c.end-l.result b.now)) (sym D.cells) (rest_has u.cells.now c.args.n c.args.j c.if-n-eq0.false c.requires.right c.end-l.result l),
+      ),
+    )
+
+pub returns-clause-out : goal.returns-clause-out
+returns-clause-out t c =
+    let u = c.args.self.now in
+    let mem = u.cells.now in
+    let v = c.if-x-y.self in
+    let here = goal.at.returns-clause-out t c in
+    let D = headed t here.After-end-l (heads t here.After-head-y) in
+    let (k, l) = behind t here.After-end-l D in
+    let N = c.unify_rows-2.new.self.links.items in
+    subst₂ (λ P Q. Out (over u.kinds mem) (length mem) 512 u.links.items N P Q c.unify_rows-2.result)
+    (sym (places_cons mem c.args.n c.args.i c.if-n-eq0.false c.requires.left c.end-k.result k))
+    (sym (places_cons mem c.args.n c.args.j c.if-n-eq0.false c.requires.right c.end-l.result l))
+    (D.wrap N _ _ c.unify_rows-2.result
+    (along v.kinds u.kinds v.cells u.cells D.kinds D.cells v.links.items N c.end-k.result c.end-l.result (c.args.n - 1) c.unify_rows-2.result c.unify_rows-2.ensures.out))

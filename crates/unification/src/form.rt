@@ -1,0 +1,57 @@
+// A common form as it is written.
+ghost use Rattle.std.specs.Prelude.{◌≡◌, ◌==◌, ◌<◌, ◌≤◌, [], ◌∷◌, ◌++◌, length, position, MatchOption, IfSome};
+
+use arrayvec::ArrayVec;
+
+// The cells so far, and the variables met, in order: a variable's number is its place among these.
+#[derive(Drop)]
+pub struct Form {
+    pub cells: ArrayVec<u32, 256>,
+    names: ArrayVec<u32, 64>,
+    pub ghost within: { length cells.items ≤ 256 },
+    pub ghost few: { length names.items ≤ 64 },
+}
+
+impl Form {
+    ghost use Rattle.unification.specs.Number.{index_of, named};
+
+    pub fn new() -> Form
+        ensures cells { result.cells.items ≡ [] }
+        ensures names { result.names.items ≡ [] }
+    {
+        Form {
+            cells: ArrayVec::new(),
+            names: ArrayVec::new(),
+        }
+    }
+
+    // Adds a cell, if there is room.
+    pub fn push(&mut self, word: u32) -> Option<()>
+        ensures cells { MatchOption result (256 ≤ length self.old.cells.items)
+            (λ _. self.new.cells.items ≡ self.old.cells.items ++ word ∷ []) }
+        ensures names { self.new.names ≡ self.old.names }
+    {
+        self.cells.try_push(word).ok()
+    }
+
+    // The number of a variable. One that was not met yet takes the next, if there is one.
+    pub fn number_of(&mut self, variable: u32) -> Option<u32>
+        ensures number { MatchOption result (64 < length (named self.old.names.items variable))
+            (λ n. (n ≡ index_of self.old.names.items variable) × (self.new.names.items ≡ named self.old.names.items variable)) }
+        ensures below { IfSome result (λ n. n < 64) }
+        ensures cells { self.new.cells ≡ self.old.cells }
+    {
+        let next = self.names.len() as u32;
+        if let Some(i) = place_among(self.names.as_slice(), variable) {
+            return Some(i as u32);
+        }
+        self.names.try_push(variable).ok()?;
+        Some(next)
+    }
+}
+
+fn place_among(met: &[u32], variable: u32) -> Option<usize>
+    ensures { result ≡ position (λ w. w == variable) met.now }
+{
+    met.iter().position(|name| *name == variable)
+}

@@ -1,0 +1,34 @@
+// Which kinds of variables may be bound.
+ghost use Rattle.std.specs.Prelude.{◌≡◌};
+ghost use Rattle.unification.specs.Memory.{binds};
+
+use cells::VARIABLE;
+
+#[derive(Clone, Copy)]
+pub struct Kinds {
+    pub formula: bool,
+    pub rule: bool,
+    pub tree: bool,
+}
+
+impl Kinds {
+    pub const ALL: Kinds = Kinds {
+        formula: true,
+        rule: true,
+        tree: true,
+    };
+
+    // Whether the word is a variable of these kinds.
+    #[tactic(auto, using(crate::proofs::DownFacts::binds_word))]
+    pub fn binds(self, word: u32) -> bool
+        ensures { result ≡ binds self word }
+    {
+        if word >= 0xA000_0000 {
+            self.tree
+        } else if word >= 0x9000_0000 {
+            self.rule
+        } else {
+            word >= VARIABLE && self.formula
+        }
+    }
+}

@@ -1,0 +1,93 @@
+// Places, and what stands for them.
+ghost use Rattle.std.specs.Prelude.{◌≡◌, ◌+◌, ◌<◌, ◌≤◌, false, [], length, drop};
+ghost use Rattle.unification.specs.Graph.{find, norm};
+ghost use Rattle.unification.specs.Codes.{is_var};
+ghost use Rattle.unification.specs.Memory.{binds, size, cell_at, Memory, over};
+ghost use Rattle.unification.specs.Close.{Place};
+
+use super::Unifier;
+use crate::kinds::Kinds;
+use arrayvec::ArrayVec;
+use cells::{VARIABLE, arity_of};
+
+impl<'a> Unifier<'a> {
+    // No two places are one yet.
+    pub fn new(cells: &'a [u32], kinds: Kinds) -> Unifier<'a>
+        requires memory { Memory cells.now }
+        requires small { length cells.now ≤ 512 }
+        ensures cells { result.cells.now ≡ cells.now }
+        ensures kinds { result.kinds ≡ kinds }
+        ensures links { result.links.items ≡ [] }
+    {
+        Unifier {
+            cells,
+            kinds,
+            links: ArrayVec::new(),
+        }
+    }
+
+    // The place that stands for a place.
+    fn root(&self, place: u32) -> u32
+        ensures { result ≡ find self.now.links.items place }
+    {
+        let mut at = place;
+        for (from, to) in self.links.as_slice() {
+            if *from == at {
+                at = *to;
+            }
+        }
+        at
+    }
+
+    fn cell(&self, place: u32) -> u32
+        requires { is_var place ≡ false → place < length self.now.cells.now }
+        ensures { result ≡ cell_at self.now.cells.now place }
+    {
+        if place >= VARIABLE {
+            place
+        } else {
+            self.cells[place as usize]
+        }
+    }
+
+    // The place that stands for a place, and its cell.
+    pub fn class_of(&self, place: u32) -> (u32, u32)
+        requires { Place (over self.now.kinds self.now.cells.now) (length self.now.cells.now) place }
+        ensures place { result.0 ≡ find self.now.links.items place }
+        ensures cell { result.1 ≡ cell_at self.now.cells.now result.0 }
+        ensures low { binds self.now.kinds result.1 ≡ false → result.0 < length self.now.cells.now }
+    {
+        let root = self.root(place);
+        (root, self.cell(root))
+    }
+
+    // The same for the row at a position.
+    pub fn head(&self, at: u32) -> (u32, u32)
+        requires { at < length self.now.cells.now }
+        ensures place { result.0 ≡ norm (over self.now.kinds self.now.cells.now) self.now.links.items at }
+        ensures cell { result.1 ≡ cell_at self.now.cells.now result.0 }
+        ensures low { binds self.now.kinds result.1 ≡ false → result.0 < length self.now.cells.now }
+    {
+        let cell = self.cells[at as usize];
+        if self.kinds.binds(cell) {
+            self.class_of(cell)
+        } else {
+            self.class_of(at)
+        }
+    }
+
+    // The position behind the row at a position.
+    pub fn end(&self, at: u32) -> u32
+        requires { at < length self.now.cells.now }
+        ensures end { result ≡ at + size 1 (drop at self.now.cells.now) }
+        ensures within { result ≤ length self.now.cells.now }
+    {
+        let mut left = 1;
+        let mut end = at;
+        while left > 0 {
+            left = left - 1 + arity_of(self.cells[end as usize]);
+            end += 1;
+        }
+        end
+    }
+}

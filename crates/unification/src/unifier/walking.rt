@@ -1,0 +1,58 @@
+// The walk for cycles.
+ghost use Rattle.std.specs.Prelude.{◌≡◌, ℕ, ◌≤◌, true, false, List, length, drop};
+ghost use Rattle.unification.specs.Graph.{Sat};
+ghost use Rattle.unification.specs.Memory.{Has, places_from, over};
+ghost use Rattle.unification.specs.Finite.{Above, Ended, Fin};
+ghost use Rattle.unification.specs.Close.{Solved};
+
+use super::Unifier;
+use crate::mark::Mark;
+use cells::arity_of;
+
+impl Unifier<'_> {
+    // Walks the n rows that begin at i, through the links: true if each comes to an end.
+    fn finite_rows(&self, marks: &mut [Mark], i: u32, n: usize) -> bool
+        requires left { Has n (drop i self.now.cells.now) }
+        requires sheet { length self.now.cells.now ≤ length marks.old }
+        requires above { Above (over self.now.kinds self.now.cells.now) self.now.links.items marks.old (places_from self.now.cells.now i n) }
+        requires ended { Ended (over self.now.kinds self.now.cells.now) self.now.links.items marks.old }
+        ensures { Fin (over self.now.kinds self.now.cells.now) self.now.links.items
+            marks.old marks.new (places_from self.now.cells.now i n) result }
+    {
+        if n == 0 {
+            return true;
+        }
+        let (x, c) = self.head(i);
+        if !self.kinds.binds(c) {
+            match marks[x as usize] {
+                Mark::Open => return false,
+                Mark::New => {
+                    marks[x as usize] = Mark::Open;
+                    if !self.finite_rows(marks, x + 1, arity_of(c)) {
+                        return false;
+                    }
+                    marks[x as usize] = Mark::Done;
+                }
+                Mark::Done => {}
+            }
+        }
+        self.finite_rows(marks, self.end(i), n - 1)
+    }
+
+    // Whether every bound variable has a row: no variable stands inside its own.
+    pub fn is_solvable(&self) -> bool
+        ensures yes { result ≡ true → Solved (over self.now.kinds self.now.cells.now) self.now.links.items }
+        ensures no { result ≡ false → (σ : ℕ → List ℕ) → Sat (over self.now.kinds self.now.cells.now) σ self.now.links.items → ⊥ }
+    {
+        let mut marks = [Mark::New; 512];
+        for (from, _) in self.links.as_slice() {
+            if self.kinds.binds(*from) {
+                let (root, cell) = self.class_of(*from);
+                if !self.kinds.binds(cell) && !self.finite_rows(&mut marks, root, 1) {
+                    return false;
+                }
+            }
+        }
+        true
+    }
+}
