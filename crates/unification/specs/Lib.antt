@@ -9,3 +9,4 @@ pub mod Refusals
 pub mod Forms
 pub mod Laws
 pub mod FormsOfRows
+pub mod Unifiers

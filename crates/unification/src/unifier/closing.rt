@@ -1,7 +1,8 @@
 // Closing the links under equations.
 ghost use Rattle.std.specs.Prelude.{◌≡◌, length, drop};
-ghost use Rattle.unification.specs.Memory.{Has, places_from, over};
+ghost use Rattle.unification.specs.Memory.{Has};
 ghost use Rattle.unification.specs.Close.{Out};
+ghost use Rattle.unification.specs.Unifiers.{graph_of, size_of, links_of, rows_of};
 
 use super::Unifier;
 use cells::arity_of;
@@ -13,9 +14,9 @@ impl Unifier<'_> {
         requires right { Has n (drop j self.old.cells.now) }
         ensures cells { self.new.cells ≡ self.old.cells }
         ensures kinds { self.new.kinds ≡ self.old.kinds }
-        ensures out { Out (over self.old.kinds self.old.cells.now) (length self.old.cells.now) 512
-            self.old.links.items self.new.links.items
-            (places_from self.old.cells.now i n) (places_from self.old.cells.now j n) result }
+        ensures out { Out (graph_of self.old) (size_of self.old) 512
+            (links_of self.old) (links_of self.new)
+            (rows_of self.old i n) (rows_of self.old j n) result }
     {
         if n == 0 {
             return true;

@@ -2,8 +2,9 @@
 ghost use Rattle.std.specs.Prelude.{◌≡◌, ◌+◌, ◌<◌, ◌≤◌, false, [], length, drop};
 ghost use Rattle.unification.specs.Graph.{find, norm};
 ghost use Rattle.unification.specs.Codes.{is_var};
-ghost use Rattle.unification.specs.Memory.{binds, size, cell_at, Memory, over};
+ghost use Rattle.unification.specs.Memory.{binds, size, cell_at, Memory};
 ghost use Rattle.unification.specs.Close.{Place};
+ghost use Rattle.unification.specs.Unifiers.{graph_of, size_of, links_of};
 
 use super::Unifier;
 use crate::kinds::Kinds;
@@ -28,7 +29,7 @@ impl<'a> Unifier<'a> {
 
     // The place that stands for a place.
     fn root(&self, place: u32) -> u32
-        ensures { result ≡ find self.now.links.items place }
+        ensures { result ≡ find (links_of self.now) place }
     {
         let mut at = place;
         for (from, to) in self.links.as_slice() {
@@ -40,7 +41,7 @@ impl<'a> Unifier<'a> {
     }
 
     fn cell(&self, place: u32) -> u32
-        requires { is_var place ≡ false → place < length self.now.cells.now }
+        requires { is_var place ≡ false → place < size_of self.now }
         ensures { result ≡ cell_at self.now.cells.now place }
     {
         if place >= VARIABLE {
@@ -52,10 +53,10 @@ impl<'a> Unifier<'a> {
 
     // The place that stands for a place, and its cell.
     pub fn class_of(&self, place: u32) -> (u32, u32)
-        requires { Place (over self.now.kinds self.now.cells.now) (length self.now.cells.now) place }
-        ensures place { result.0 ≡ find self.now.links.items place }
+        requires { Place (graph_of self.now) (size_of self.now) place }
+        ensures place { result.0 ≡ find (links_of self.now) place }
         ensures cell { result.1 ≡ cell_at self.now.cells.now result.0 }
-        ensures low { binds self.now.kinds result.1 ≡ false → result.0 < length self.now.cells.now }
+        ensures low { binds self.now.kinds result.1 ≡ false → result.0 < size_of self.now }
     {
         let root = self.root(place);
         (root, self.cell(root))
@@ -63,10 +64,10 @@ impl<'a> Unifier<'a> {
 
     // The same for the row at a position.
     pub fn head(&self, at: u32) -> (u32, u32)
-        requires { at < length self.now.cells.now }
-        ensures place { result.0 ≡ norm (over self.now.kinds self.now.cells.now) self.now.links.items at }
+        requires { at < size_of self.now }
+        ensures place { result.0 ≡ norm (graph_of self.now) (links_of self.now) at }
         ensures cell { result.1 ≡ cell_at self.now.cells.now result.0 }
-        ensures low { binds self.now.kinds result.1 ≡ false → result.0 < length self.now.cells.now }
+        ensures low { binds self.now.kinds result.1 ≡ false → result.0 < size_of self.now }
     {
         let cell = self.cells[at as usize];
         if self.kinds.binds(cell) {
@@ -78,9 +79,9 @@ impl<'a> Unifier<'a> {
 
     // The position behind the row at a position.
     pub fn end(&self, at: u32) -> u32
-        requires { at < length self.now.cells.now }
+        requires { at < size_of self.now }
         ensures end { result ≡ at + size 1 (drop at self.now.cells.now) }
-        ensures within { result ≤ length self.now.cells.now }
+        ensures within { result ≤ size_of self.now }
     {
         let mut left = 1;
         let mut end = at;

@@ -1,8 +1,8 @@
 // Unifying two rows of the memory, and their common form.
 ghost use Rattle.std.specs.Prelude.{◌≡◌, ◌<◌, true, [], ◌∷◌, length};
-ghost use Rattle.unification.specs.Memory.{over};
 ghost use Rattle.unification.specs.Close.{Out, Solved, Decides};
 ghost use Rattle.unification.specs.Number.{Common};
+ghost use Rattle.unification.specs.Unifiers.{graph_of, size_of, links_of};
 
 use super::Unifier;
 use crate::fault::FormFault;
@@ -11,25 +11,25 @@ use crate::form::Form;
 impl Unifier<'_> {
     // Whether some replacement of the variables that may be bound makes one row of those at p and q.
     pub fn unify(&mut self, p: u32, q: u32) -> bool
-        requires left { p < length self.old.cells.now }
-        requires right { q < length self.old.cells.now }
-        requires links { self.old.links.items ≡ [] }
+        requires left { p < size_of self.old }
+        requires right { q < size_of self.old }
+        requires links { links_of self.old ≡ [] }
         ensures cells { self.new.cells ≡ self.old.cells }
         ensures kinds { self.new.kinds ≡ self.old.kinds }
-        ensures decides { Decides (over self.old.kinds self.old.cells.now) p q result }
-        ensures out { result ≡ true → Out (over self.old.kinds self.old.cells.now) (length self.old.cells.now) 512
-            [] self.new.links.items (p ∷ []) (q ∷ []) true }
-        ensures solved { result ≡ true → Solved (over self.old.kinds self.old.cells.now) self.new.links.items }
+        ensures decides { Decides (graph_of self.old) p q result }
+        ensures out { result ≡ true → Out (graph_of self.old) (size_of self.old) 512
+            [] (links_of self.new) (p ∷ []) (q ∷ []) true }
+        ensures solved { result ≡ true → Solved (graph_of self.old) (links_of self.new) }
     {
         self.unify_rows(p, q, 1) && self.is_solvable()
     }
 
     // The common form of the rows at p and q, with its variables numbered, if there is one.
     pub fn common_form(&mut self, p: u32, q: u32) -> Result<Option<Form>, FormFault>
-        requires left { p < length self.old.cells.now }
-        requires right { q < length self.old.cells.now }
-        requires links { self.old.links.items ≡ [] }
-        ensures { Common (over self.old.kinds self.old.cells.now) p q result }
+        requires left { p < size_of self.old }
+        requires right { q < size_of self.old }
+        requires links { links_of self.old ≡ [] }
+        ensures { Common (graph_of self.old) p q result }
     {
         if !self.unify(p, q) {
             return Ok(None);

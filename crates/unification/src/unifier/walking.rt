@@ -1,9 +1,10 @@
 // The walk for cycles.
 ghost use Rattle.std.specs.Prelude.{◌≡◌, ℕ, ◌≤◌, true, false, List, length, drop};
 ghost use Rattle.unification.specs.Graph.{Sat};
-ghost use Rattle.unification.specs.Memory.{Has, places_from, over};
+ghost use Rattle.unification.specs.Memory.{Has};
 ghost use Rattle.unification.specs.Finite.{Above, Ended, Fin};
 ghost use Rattle.unification.specs.Close.{Solved};
+ghost use Rattle.unification.specs.Unifiers.{graph_of, size_of, links_of, rows_of};
 
 use super::Unifier;
 use crate::mark::Mark;
@@ -13,11 +14,11 @@ impl Unifier<'_> {
     // Walks the n rows that begin at i, through the links: true if each comes to an end.
     fn finite_rows(&self, marks: &mut [Mark], i: u32, n: usize) -> bool
         requires left { Has n (drop i self.now.cells.now) }
-        requires sheet { length self.now.cells.now ≤ length marks.old }
-        requires above { Above (over self.now.kinds self.now.cells.now) self.now.links.items marks.old (places_from self.now.cells.now i n) }
-        requires ended { Ended (over self.now.kinds self.now.cells.now) self.now.links.items marks.old }
-        ensures { Fin (over self.now.kinds self.now.cells.now) self.now.links.items
-            marks.old marks.new (places_from self.now.cells.now i n) result }
+        requires sheet { size_of self.now ≤ length marks.old }
+        requires above { Above (graph_of self.now) (links_of self.now) marks.old (rows_of self.now i n) }
+        requires ended { Ended (graph_of self.now) (links_of self.now) marks.old }
+        ensures { Fin (graph_of self.now) (links_of self.now)
+            marks.old marks.new (rows_of self.now i n) result }
     {
         if n == 0 {
             return true;
@@ -41,8 +42,8 @@ impl Unifier<'_> {
 
     // Whether every bound variable has a row: no variable stands inside its own.
     pub fn is_solvable(&self) -> bool
-        ensures yes { result ≡ true → Solved (over self.now.kinds self.now.cells.now) self.now.links.items }
-        ensures no { result ≡ false → (σ : ℕ → List ℕ) → Sat (over self.now.kinds self.now.cells.now) σ self.now.links.items → ⊥ }
+        ensures yes { result ≡ true → Solved (graph_of self.now) (links_of self.now) }
+        ensures no { result ≡ false → (σ : ℕ → List ℕ) → Sat (graph_of self.now) σ (links_of self.now) → ⊥ }
     {
         let mut marks = [Mark::New; 512];
         for (from, _) in self.links.as_slice() {

@@ -1,7 +1,8 @@
 // Writing what the links make of a row, with its variables numbered.
 ghost use Rattle.std.specs.Prelude.{drop};
-ghost use Rattle.unification.specs.Memory.{Has, places_from, over};
+ghost use Rattle.unification.specs.Memory.{Has};
 ghost use Rattle.unification.specs.Number.{Wrote};
+ghost use Rattle.unification.specs.Unifiers.{graph_of, links_of, rows_of};
 
 use super::Unifier;
 use crate::form::Form;
@@ -11,8 +12,8 @@ impl Unifier<'_> {
     // Adds the n rows that begin at i to the form, or nothing that counts where it passes 256 cells or 64 variables.
     pub fn write_rows(&self, form: &mut Form, i: u32, n: usize) -> Option<()>
         requires { Has n (drop i self.now.cells.now) }
-        ensures { Wrote (over self.now.kinds self.now.cells.now) self.now.links.items
-            (places_from self.now.cells.now i n) form.old form.new result }
+        ensures { Wrote (graph_of self.now) (links_of self.now)
+            (rows_of self.now i n) form.old form.new result }
     {
         if n == 0 {
             return Some(());
