@@ -1,5 +1,5 @@
 -- Rows of words with variables of two kinds, and rows of cells with a substitution for each kind. Assumes nothing.
-use Rattle.std.proofs.Common.{◌≡◌, ℕ, zero, suc, ◌+◌, ◌-◌, ◌<◌, ◌≤◌, Bool, true, false, cond, leb, List, [], ◌∷◌, ◌++◌, map, Decides, sym, refl, ap, ◌∙◌, subst, ap₂, arith}
+use Rattle.std.proofs.Common.{◌≡◌, ◌≢◌, ℕ, zero, suc, ◌+◌, ◌-◌, ◌<◌, ◌≤◌, Bool, true, false, cond, leb, List, [], ◌∷◌, ◌++◌, map, Decides, sym, refl, ap, ◌∙◌, subst, ap₂, arith}
 use Rattle.std.proofs.lemmas.List.{map-append}
 use Rattle.std.proofs.lemmas.Bool.{le-leb, lt-leb}
 use Rattle.cells.specs.Cells.{Cell, symbol, variable, arity}
@@ -9,9 +9,14 @@ use Rattle.cells.proofs.Terms.{Terms, reads_terms, terms_reads}
 use Rattle.matching.specs.Relations.{General, Unifiable}
 use Rattle.unification.specs.Codes.{is_var, cell_of, code, tagged, Low}
 use Rattle.unification.specs.Memory.{need, binds, bound}
-use Rattle.unification.specs.Rows.{Wholes, image, put, WholeAt, Relates}
+use Rattle.unification.specs.Rows.{Wholes, image, put, WholeAt}
 use Rattle.unification.proofs.MemFacts.{need_var}
 use Rattle.unification.proofs.CodeFacts.{mid_var, need_cell, need_code, cell_code, code_var}
+
+-- some replacement of the variables of is_v makes one row of s and t
+pub record Relates (is_v : ℕ → Bool) (need : ℕ → ℕ) (s t : List ℕ) (r : Bool) : Type 0 where
+  pub yes : r ≡ true → (σ : ℕ → List ℕ) × WholeAt is_v need σ × (put is_v σ s ≡ put is_v σ t)
+  pub no : r ≡ false → (σ : ℕ → List ℕ) → WholeAt is_v need σ → put is_v σ s ≢ put is_v σ t
 
 pub bound_var : (c : ℕ) → bound c ≡ is_var c
 unfolding binds

@@ -10,6 +10,7 @@ use Rattle.unification.specs.Graph.{Graph, Laws, Links, find, canon, norm}
 use Rattle.unification.specs.Codes.{is_var}
 use Rattle.unification.specs.Memory.{need, binds, size, Has, cell_at, places_from, kids_at, Memory, over}
 use Rattle.unification.specs.Close.{Place, Fit, Out}
+use Rattle.unification.specs.Unifiers.{graph_of}
 use Rattle.unification.proofs.MemFacts.{laws, has_step, has_drop, cell_low, low_var, var_word, need_word}
 use Rattle.unification.proofs.FitFacts.{place_at, place_node, norm_place, room_more, fit_more}
 use Rattle.unification.proofs.OutFacts.{true_not, out_same, out_bind, out_clash, out_down_no, out_down, out_sym}
@@ -33,6 +34,9 @@ need_arity c h = sym (need_word c h ∙ ap (λ b. cond b 0 (c / 65536)) (var_wor
     (λ l. ap (λ b. cond b 0 (c / 65536)) (le-leb 0x80000000 c l) ∙ sym (ap arity (cell_variable c l)))
     (cases_lt c 0x80000000))
 
+pub need_of : (mem : List ℕ) (x w m : ℕ) → w < 0x100000000 → w ≡ cell_at mem x → m ≡ arity (cell w) → m ≡ need (cell_at mem x)
+need_of mem x w m h e a = a ∙ need_arity w h ∙ ap need e
+
 pub need_small : (c : ℕ) → c < 0x100000000 → need c < 65536
 need_small c h = subst (λ n. n < 65536) (sym (need_word c h)) (go (is_var c))
   where
@@ -45,6 +49,9 @@ module _ (mem : List ℕ) (n i : ℕ) (ne : n ≡ 0 → ⊥) (h : Has n (drop i 
   pub first_low : i < length mem
   first_low = let p : 0 < n = omega arith in (has_step mem i n p h).low
 
+  pub places_first : places_from mem i n ≡ i ∷ places_from mem (i + size 1 (drop i mem)) (n - 1)
+  places_first = let k : n ≡ suc (n - 1) = omega arith in ap (places_from mem i) k
+
   module _ (e : ℕ) (end : e ≡ i + size 1 (drop i mem)) where
     pub rest_has : Has (n - 1) (drop e mem)
     rest_has =
@@ -53,9 +60,7 @@ module _ (mem : List ℕ) (n i : ℕ) (ne : n ≡ 0 → ⊥) (h : Has n (drop i 
         (subst (Has (n - 1)) (drop-drop (size 1 (drop i mem)) i mem) (has_drop (drop i mem) 1 (n - 1) (subst (λ m. Has m (drop i mem)) k h)))
 
     pub places_cons : places_from mem i n ≡ i ∷ places_from mem e (n - 1)
-    places_cons =
-        let k : n ≡ suc (n - 1) = omega arith in
-        ap (places_from mem i) k ∙ ap (λ e. i ∷ places_from mem e (n - 1)) (sym end)
+    places_cons = places_first ∙ ap (λ e. i ∷ places_from mem e (n - 1)) (sym end)
 
 module _ (mem : List ℕ) (M : Memory mem) (kinds : Kinds) where
   pub law : Laws (over kinds mem)
@@ -91,12 +96,15 @@ module _ (mem : List ℕ) (M : Memory mem) (kinds : Kinds) where
   pub place_sym : (x : ℕ) → Place (over kinds mem) (length mem) x → binds kinds (cell_at mem x) ≡ false → x < length mem
   place_sym x P v = place_node (over kinds mem) law (length mem) x P v
 
+pub law_of : (u : Unifier) → Laws (graph_of u)
+law_of u = law u.cells.now u.memory u.kinds
+
 -- the places x and y stand for those at i and j
 pub record Heads (u : Unifier) (i j x y : ℕ) : Type 0 where
   pub hi : i < length u.cells.now
   pub hj : j < length u.cells.now
-  pub ex : x ≡ norm (over u.kinds u.cells.now) u.links.items i
-  pub ey : y ≡ norm (over u.kinds u.cells.now) u.links.items j
+  pub ex : x ≡ norm (graph_of u) u.links.items i
+  pub ey : y ≡ norm (graph_of u) u.links.items j
 
 -- what becomes of the equations behind one that turned the links L into K becomes of all
 abbrev pub Wrap : Graph → ℕ → Links → Links → ℕ → ℕ → Type 0
@@ -107,7 +115,7 @@ pub record Headed (u v : Unifier) (i j : ℕ) : Type 0 where
   pub cells : v.cells ≡ u.cells
   pub kinds : v.kinds ≡ u.kinds
   pub longer : length u.links.items ≤ length v.links.items
-  pub wrap : Wrap (over u.kinds u.cells.now) (length u.cells.now) u.links.items v.links.items i j
+  pub wrap : Wrap (graph_of u) (length u.cells.now) u.links.items v.links.items i j
 
 module _ (u : Unifier) (i j x y : ℕ) (H : Heads u i j x y) where
   abbrev mem : List ℕ
@@ -117,10 +125,10 @@ module _ (u : Unifier) (i j x y : ℕ) (H : Heads u i j x y) where
   L = u.links.items
 
   abbrev G : Graph
-  G = over u.kinds mem
+  G = graph_of u
 
   abbrev W : Laws G
-  W = law mem u.memory u.kinds
+  W = law_of u
 
   px : Place G (length mem) x
   px = subst (Place G (length mem)) (sym H.ex) (norm_place G (length mem) L u.fit.ends i H.hi)

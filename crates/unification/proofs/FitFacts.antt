@@ -1,24 +1,12 @@
 -- A new link between two places that stand for themselves leaves the list in order, with room. Assumes nothing.
-use Rattle.std.proofs.Common.{◌≡◌, ℕ, zero, suc, ◌+◌, ◌<◌, ◌≤◌, Bool, true, false, cond, ◌&&◌, T, eqb, ◌≢◌, ◌⊎◌, [], ◌∷◌, ◌++◌, length, sym, refl, ap, ◌∙◌, subst, ap₂, inl, inr, ⊎_elim, true≢false, le_refl, add-one, arith, eqb→eq, length-append}
+use Rattle.std.proofs.Common.{◌≡◌, ℕ, zero, suc, ◌+◌, ◌<◌, ◌≤◌, Bool, true, false, cond, ◌&&◌, eqb, ◌≢◌, ◌⊎◌, [], ◌∷◌, ◌++◌, length, sym, refl, ap, ◌∙◌, subst, ap₂, inl, inr, ⊎_elim, true≢false, le_refl, add-one, arith, length-append}
 use Rattle.std.proofs.lemmas.Bool.{false≢true, eqb-true, eq-eqb, cases_eq, and_parts, and_from, or_cases, or_left, or_right}
-use lib.Dec.{eqb_refl}
 use Rattle.unification.specs.Graph.{Graph, Laws, Links, follow, find, canon, norm}
 use Rattle.unification.specs.Close.{roots, is_place, Place, is_between, Fit}
 use Rattle.unification.proofs.LinkFacts.{find_append, follow_cases}
 
 pub follow_same : (x y : ℕ) → follow (x, y) x ≡ y
-follow_same x y = go (eqb x x) (eqb_refl x)
-  where
-    go : (b : Bool) → T b → cond b y x ≡ y
-    go true h = refl
-    go false h = absurd h
-
-pub eqb_true : (m n : ℕ) → m ≡ n → eqb m n ≡ true
-eqb_true m n e = go (eqb m n) (subst (λ k. T (eqb m k)) e (eqb_refl m))
-  where
-    go : (b : Bool) → T b → b ≡ true
-    go true h = refl
-    go false h = absurd h
+follow_same x y = ap (λ b. cond b y x) (eq-eqb x x refl)
 
 module _ (G : Graph) (L : Links) (x y : ℕ) (ne : x ≢ y) (again : (a : ℕ) → find L (find L a) ≡ find L a) (rx : find L x ≡ x) (ry : find L y ≡ y) where
   abbrev M : Links
@@ -62,8 +50,8 @@ module _ (G : Graph) (L : Links) (x y : ℕ) (ne : x ≢ y) (again : (a : ℕ) �
     where
       go : (b : Bool) → eqb (find M a) a ≡ b → cond b 1 0 ≤ cond (eqb (find L a) a) 1 0
       go true e =
-          let h : find M a ≡ a = eqb→eq (find M a) a (subst T (sym e) tt) in
-          let k : eqb (find L a) a ≡ true = eqb_true (find L a) a (root_was a h) in
+          let h : find M a ≡ a = eqb-true (find M a) a e in
+          let k : eqb (find L a) a ≡ true = eq-eqb (find L a) a (root_was a h) in
           subst (λ b. 1 ≤ cond b 1 0) (sym k) (le_refl 1)
       go false e = omega arith
 
@@ -71,11 +59,11 @@ module _ (G : Graph) (L : Links) (x y : ℕ) (ne : x ≢ y) (again : (a : ℕ) �
   bit_x a e = go (eqb (find M a) a) refl
     where
       k : eqb (find L a) a ≡ true
-      k = eqb_true (find L a) a (ap (find L) e ∙ rx ∙ sym e)
+      k = eq-eqb (find L a) a (ap (find L) e ∙ rx ∙ sym e)
 
       go : (b : Bool) → eqb (find M a) a ≡ b → cond b 1 0 + 1 ≤ cond (eqb (find L a) a) 1 0
       go true f =
-          let h : find M a ≡ a = eqb→eq (find M a) a (subst T (sym f) tt) in
+          let h : find M a ≡ a = eqb-true (find M a) a f in
           let z : x ≡ y = sym e ∙ sym h ∙ ap (find M) e ∙ root_gone in
           absurd (ne z)
       go false f = subst (λ b. 0 + 1 ≤ cond b 1 0) (sym k) (le_refl 1)
@@ -90,12 +78,12 @@ module _ (G : Graph) (L : Links) (x y : ℕ) (ne : x ≢ y) (again : (a : ℕ) �
     where
       go : (p < n → roots G M n + 1 ≤ roots G L n) → (b : Bool) → eqb p n ≡ b → roots G M (suc n) + 1 ≤ roots G L (suc n)
       go rec true f =
-          let s : p ≡ n = eqb→eq p n (subst T (sym f) tt) in
+          let s : p ≡ n = eqb-true p n f in
           let i = roots_le n in
           let b = bit_x (canon G n) (ap (canon G) (sym s) ∙ e) in
           omega arith
       go rec false f =
-          let ns : p ≢ n = λ s. true≢false (sym (eqb_true p n s) ∙ f) in
+          let ns : p ≢ n = λ s. true≢false (sym (eq-eqb p n s) ∙ f) in
           let k : p < n = omega arith in
           let i = rec k in
           let b = bit_le (canon G n) in
@@ -185,7 +173,7 @@ module _ (G : Graph) (n cap : ℕ) (L : Links) (F : Fit G n cap L) (x y : ℕ) (
 
 pub roots_none : (G : Graph) (n : ℕ) → roots G [] n ≡ n
 roots_none G zero = refl
-roots_none G (suc n) = ap₂ (λ a b. a + cond b 1 0) (roots_none G n) (eqb_true (canon G n) (canon G n) refl) ∙ add-one n
+roots_none G (suc n) = ap₂ (λ a b. a + cond b 1 0) (roots_none G n) (eq-eqb (canon G n) (canon G n) refl) ∙ add-one n
 
 pub fit_none : (G : Graph) (n cap : ℕ) → n ≤ cap → Fit G n cap []
 fit_none G n cap h = record { again = λ a. refl; ends = refl; room = omega (arith, roots_none G n) }

@@ -1,6 +1,6 @@
 -- Links, and what a replacement that satisfies them makes of places. Assumes nothing.
-use Rattle.std.proofs.Common.{◌≡◌, ℕ, ◌+◌, ◌<◌, Bool, true, false, cond, T, eqb, ◌≢◌, ◌⊎◌, List, [], ◌∷◌, ◌++◌, length, get_or, take, sym, refl, ap, ◌∙◌, subst, inl, inr, add-one, arith, eqb→eq, take-suc}
-use lib.Dec.{eqb_refl}
+use Rattle.std.proofs.Common.{◌≡◌, ℕ, ◌+◌, ◌<◌, Bool, true, false, cond, eqb, ◌≢◌, ◌⊎◌, List, [], ◌∷◌, ◌++◌, length, get_or, take, sym, refl, ap, ◌∙◌, subst, inl, inr, add-one, arith, take-suc}
+use Rattle.std.proofs.lemmas.Bool.{eq-eqb, ne_eqb, eqb-true}
 use Rattle.unification.specs.Rows.{put}
 use Rattle.unification.specs.Graph.{Graph, Laws, flat, Links, follow, find, Pairs, canon, norm, Joined, val, Sat, Closed}
 
@@ -13,7 +13,7 @@ pub follow_cases : (l : ℕ × ℕ) (a : ℕ) → ((a ≡ l.0) × (follow l a �
 follow_cases l a = go (eqb a l.0) refl
   where
     go : (b : Bool) → eqb a l.0 ≡ b → ((a ≡ l.0) × (cond b l.1 a ≡ l.1)) ⊎ (cond b l.1 a ≡ a)
-    go true e = inl (eqb→eq a l.0 (subst T (sym e) tt), refl)
+    go true e = inl (eqb-true a l.0 e, refl)
     go false e = inr refl
 
 pub pairs_map : {R S : ℕ → ℕ → Type 0} (ps qs : List ℕ) → ((p q : ℕ) → R p q → S p q) → Pairs R ps qs → Pairs S ps qs
@@ -113,27 +113,13 @@ module _ (G : Graph) where
     pub norm_val : (σ : ℕ → List ℕ) (L : Links) (p : ℕ) → Sat G σ L → val G σ p ≡ val G σ (norm G L p)
     norm_val σ L p h = ap (put G.is_v σ) (term_canon p) ∙ find_val σ L (canon G p) h
 
-    pub joined_val : (σ : ℕ → List ℕ) (L : Links) (p q : ℕ) → Sat G σ L → Joined G L p q → val G σ p ≡ val G σ q
-    joined_val σ L p q h j = norm_val σ L p h ∙ ap (val G σ) j ∙ sym (norm_val σ L q h)
-
 -- one entry of the list more
 pub find_take : (items : List (ℕ × ℕ)) (i a : ℕ) → i < length items → find (take (i + 1) items) a ≡ follow (get_or items i (0, 0)) (find (take i items) a)
 find_take items i a h =
     ap (λ n. find (take n items) a) (add-one i) ∙ ap (λ L. find L a) (take-suc items i (0, 0) h) ∙ find_append (take i items) (get_or items i (0, 0) ∷ []) a
 
 pub follow_hit : (l : ℕ × ℕ) (a : ℕ) → l.0 ≡ a → follow l a ≡ l.1
-follow_hit l a e = ap (λ b. cond b l.1 a) (eqb_yes a l.0 (sym e))
-  where
-    eqb_yes : (m n : ℕ) → m ≡ n → eqb m n ≡ true
-    eqb_yes m n e = go (eqb m n) (subst (λ k. T (eqb m k)) e (eqb_refl m))
-      where
-        go : (b : Bool) → T b → b ≡ true
-        go true h = refl
-        go false h = absurd h
+follow_hit l a e = ap (λ b. cond b l.1 a) (eq-eqb a l.0 (sym e))
 
 pub follow_miss : (l : ℕ × ℕ) (a : ℕ) → l.0 ≢ a → follow l a ≡ a
-follow_miss l a ne = go (follow_cases l a)
-  where
-    go : ((a ≡ l.0) × (follow l a ≡ l.1)) ⊎ (follow l a ≡ a) → follow l a ≡ a
-    go (inl w) = absurd (ne (sym w.0))
-    go (inr e) = e
+follow_miss l a ne = ap (λ b. cond b l.1 a) (ne_eqb a l.0 (λ e. ne (sym e)))

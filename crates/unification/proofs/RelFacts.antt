@@ -2,10 +2,11 @@
 use Rattle.std.proofs.Common.{◌≡◌, ℕ, zero, suc, ◌+◌, ◌<◌, Bool, cond, List, [], ◌∷◌, ◌++◌, length, take, drop, sym, refl, ap, ◌∙◌, append-nil, arith, length-append, take_at}
 use lib.Seq.{drop-append_seam}
 use Rattle.unification.specs.declared.kinds.Kinds.{Kinds}
-use Rattle.unification.specs.Rows.{Wholes, put, Relates}
+use Rattle.unification.specs.Rows.{Wholes, put}
 use Rattle.unification.specs.Memory.{need, binds, size, or_var, from, term_at, Memory, over}
 use Rattle.unification.specs.Close.{Decides}
 use Rattle.unification.proofs.RowFacts.{wholes_append}
+use Rattle.unification.proofs.BridgeFacts.{Relates}
 use Rattle.unification.proofs.MemFacts.{low_var, suffix_has}
 
 pub size_whole : (s t : List ℕ) (k : ℕ) → Wholes need k s → size k (s ++ t) ≡ length s

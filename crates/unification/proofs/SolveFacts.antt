@@ -1,10 +1,11 @@
 -- From links that are closed and have a row for each variable to the most general replacement. Assumes nothing.
-use Rattle.std.proofs.Common.{◌≡◌, ℕ, zero, suc, ◌<◌, Bool, true, false, cond, T, eqb, ◌≢◌, ◌⊎◌, List, [], ◌∷◌, ◌++◌, length, get_or, sym, refl, ap, ◌∙◌, subst, inl, inr, arith, eqb→eq}
+use Rattle.std.proofs.Common.{◌≡◌, ℕ, zero, suc, ◌<◌, Bool, true, false, cond, eqb, ◌≢◌, ◌⊎◌, List, [], ◌∷◌, ◌++◌, length, get_or, sym, refl, ap, ◌∙◌, subst, inl, inr, arith}
+use Rattle.std.proofs.lemmas.Bool.{eqb-true, eq-eqb}
 use Rattle.unification.specs.Graph.{Graph, Laws, Links, follow, find, canon, norm, Joined, Sat, Closed, Sols, Sol}
 use Rattle.unification.specs.Graph.Sols.{none, more}
 use Rattle.unification.specs.Close.{Place, is_between, Out, Solved, Decides}
 use Rattle.unification.proofs.LinkFacts.{kids_none, follow_miss}
-use Rattle.unification.proofs.FitFacts.{eqb_true, between_parts}
+use Rattle.unification.proofs.FitFacts.{between_parts}
 use Rattle.unification.proofs.OutFacts.{true_not}
 use Rattle.unification.proofs.SolFacts.{sols_joined, sol_solves, sol_general, sol_whole}
 
@@ -15,10 +16,10 @@ linked (l ∷ L) c = go (linked L c) (eqb l.0 c) refl
   where
     go : ((j : ℕ) × (j < length L) × ((get_or L j (0, 0)).0 ≡ c)) ⊎ (find L c ≡ c) → (b : Bool) → eqb l.0 c ≡ b →
         ((j : ℕ) × (j < length (l ∷ L)) × ((get_or (l ∷ L) j (0, 0)).0 ≡ c)) ⊎ (find L (follow l c) ≡ c)
-    go r true e = inl (0, omega arith, eqb→eq l.0 c (subst T (sym e) tt))
+    go r true e = inl (0, omega arith, eqb-true l.0 c e)
     go (inl w) false e = inl (suc w.0, omega (arith, w.1), w.2)
     go (inr f) false e =
-        let ne : l.0 ≢ c = λ s. true_not (eqb_true l.0 c s) e in
+        let ne : l.0 ≢ c = λ s. true_not (eq-eqb l.0 c s) e in
         inr (ap (find L) (follow_miss l c ne) ∙ f)
 
 pub ends_at : (G : Graph) (n : ℕ) (L : Links) (j : ℕ) → is_between G n L ≡ true → j < length L → Place G n (get_or L j (0, 0)).0
@@ -69,9 +70,6 @@ module _ (G : Graph) (W : Laws G) (L : Links) where
 
 -- the whole decision: closed from nothing, and with a row for each variable, or with none
 module _ (G : Graph) (W : Laws G) (n cap : ℕ) (p q : ℕ) (L : Links) where
-  pub decide_clash : Out G n cap [] L (p ∷ []) (q ∷ []) false → Decides G p q false
-  decide_clash O = record { yes = λ e. true_not e refl; no = λ e σ w h. O.refutes refl σ w tt (h, tt) }
-
   pub decide_never : Out G n cap [] L (p ∷ []) (q ∷ []) true → ((σ : ℕ → List ℕ) → Sat G σ L → ⊥) → Decides G p q false
   decide_never O f = record { yes = λ e. true_not e refl; no = λ e σ w h. f σ (O.keeps refl σ w tt (h, tt)) }
 

@@ -236,9 +236,6 @@ module _ (need : ℕ → ℕ) (leaf : (w : ℕ) → even w ≡ true → need w �
   pub two_good : (a b : List ℕ) → Wholes need 1 a → Wholes need 1 b → Good (a ++ b)
   two_good a b u v = (wholes_good (1 + 1) (a ++ b) (wholes_append need a b 1 1 u v)).1
 
-  pub row_place : List ℕ → ℕ
-  row_place cs = place_of (pred (length cs))
-
   row_text : (pre a b : List ℕ) → Wholes need 1 a → (text_at (pre ++ (a ++ b)) (place_of (pred (length (a ++ b)))) ≡ a) × (pred (length (a ++ b)) < length (a ++ b))
   row_text pre [] b u = absurd (omega arith)
   row_text pre (c ∷ a) b u = (

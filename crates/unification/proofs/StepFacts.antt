@@ -51,9 +51,6 @@ module _ (G : Graph) (W : Laws G) where
       let n : length (G.kids a) ≡ length (G.kids b) = W.many a ∙ ap G.need c ∙ sym (W.many b) in
       flat_split G.need (val G σ) (val_whole σ w) (G.kids a) (G.kids b) n (cons_tail (sym (val_sym σ a s) ∙ e ∙ val_sym σ b t))
 
-  pub build : (σ : ℕ → List ℕ) (a b : ℕ) → G.cell a ≡ G.cell b → Pairs (SameVal G σ) (G.kids a) (G.kids b) → SameVal G σ a b
-  build σ a b c h = val_is σ a ∙ ap₂ (λ x r. image G.is_v σ x ++ r) c (flat_pairs (val G σ) (G.kids a) (G.kids b) h) ∙ sym (val_is σ b)
-
   -- a place strictly inside another is strictly shorter, whatever is put for the variables
   pub inside : (σ : ℕ → List ℕ) (L : Links) (p q : ℕ) → Sat G σ L → G.is_v (G.cell (norm G L p)) ≡ false → In q (G.kids (norm G L p)) →
       length (val G σ q) < length (val G σ p)

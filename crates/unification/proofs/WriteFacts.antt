@@ -3,7 +3,8 @@ use Rattle.std.proofs.Common.{◌≡◌, ℕ, suc, ◌+◌, ◌<◌, ◌≤◌, 
 use Rattle.unification.specs.declared.form.Form.{Form}
 use Rattle.unification.specs.Graph.{Graph, Laws, Links, norm, Sols}
 use Rattle.unification.specs.Graph.Sols.{none, more}
-use Rattle.unification.specs.Number.{index_of, named, met, number, after, Over, Written, Wrote}
+use Rattle.cells.specs.Variables.{index, include}
+use Rattle.unification.specs.Number.{met, number, after, Over, Written, Wrote}
 use Rattle.unification.proofs.LinkFacts.{kids_none}
 use Rattle.unification.proofs.SolFacts.{sols_unique}
 
@@ -14,7 +15,7 @@ module _ (is_v : ℕ → Bool) where
 
   pub number_append : (ms a b : List ℕ) → number is_v ms (a ++ b) ≡ number is_v ms a ++ number is_v (after is_v ms a) b
   number_append ms [] b = refl
-  number_append ms (c ∷ a) b = ap {B = List ℕ} (λ r. cond (is_v c) (0x80000000 + index_of ms c) c ∷ r) (number_append (met is_v ms c) a b)
+  number_append ms (c ∷ a) b = ap {B = List ℕ} (λ r. cond (is_v c) (0x80000000 + index ms c) c ∷ r) (number_append (met is_v ms c) a b)
 
   pub number_length : (ms a : List ℕ) → length (number is_v ms a) ≡ length a
   number_length ms [] = refl
@@ -24,8 +25,8 @@ module _ (is_v : ℕ → Bool) where
   named_le ms c true = le_refl (length ms)
   named_le ms c false = omega (arith, length-append ms (c ∷ []))
 
-  met_le : (ms : List ℕ) (c : ℕ) (b : Bool) → length ms ≤ length (cond b (named ms c) ms)
-  met_le ms c true = named_le ms c (ltb (index_of ms c) (length ms))
+  met_le : (ms : List ℕ) (c : ℕ) (b : Bool) → length ms ≤ length (cond b (include ms c) ms)
+  met_le ms c true = named_le ms c (ltb (index ms c) (length ms))
   met_le ms c false = le_refl (length ms)
 
   pub after_le : (ms a : List ℕ) → length ms ≤ length (after is_v ms a)
@@ -42,14 +43,11 @@ module _ (G : Graph) (W : Laws G) (L : Links) where
     first_row (more {a = a} {b = b} s t) =
         (a, b, subst (λ n. Sols G L (G.kids n) a) (sym ix) s, t, ap {B = List ℕ} (λ n. G.cell n ∷ (a ++ b)) (sym ix))
 
-    pub w_full : (ps : List ℕ) (new : Form) → 256 ≤ length old.cells.items → Wrote G L (i ∷ ps) old new None
-    w_full ps new h row s = let r = first_row s in inl (omega (arith, ap length r.4))
-
-    pub w_names : (ps : List ℕ) (new : Form) → G.is_v (G.cell x) ≡ true → 64 < length (named old.names.items (G.cell x)) → Wrote G L (i ∷ ps) old new None
+    pub w_names : (ps : List ℕ) (new : Form) → G.is_v (G.cell x) ≡ true → 64 < length (include old.names.items (G.cell x)) → Wrote G L (i ∷ ps) old new None
     w_names ps new v h row s =
         let ms = old.names.items in
         let r = first_row s in
-        let m : met G.is_v ms (G.cell x) ≡ named ms (G.cell x) = ap (λ b. cond b (named ms (G.cell x)) ms) v in
+        let m : met G.is_v ms (G.cell x) ≡ include ms (G.cell x) = ap (λ b. cond b (include ms (G.cell x)) ms) v in
         let l : 64 < length (met G.is_v ms (G.cell x)) = subst (λ n. 64 < length n) (sym m) h in
         let g = after_le G.is_v (met G.is_v ms (G.cell x)) (r.0 ++ r.1) in
         inr (subst (λ w. 64 < length (after G.is_v ms w)) (sym r.4) (omega arith))
@@ -94,19 +92,19 @@ module _ (G : Graph) (W : Laws G) (L : Links) where
             inr (subst (λ w. 64 < length w) (ap (λ v. after G.is_v v b) f ∙ sym (after_append G.is_v old.names.items (G.cell x ∷ a) b)) h)
 
     -- a variable
-    pub first_var : (mid : Form) (id : ℕ) → G.is_v (G.cell x) ≡ true → id ≡ index_of old.names.items (G.cell x) → mid.names.items ≡ named old.names.items (G.cell x)
+    pub first_var : (mid : Form) (id : ℕ) → G.is_v (G.cell x) ≡ true → id ≡ index old.names.items (G.cell x) → mid.names.items ≡ include old.names.items (G.cell x)
         → mid.cells.items ≡ old.cells.items ++ (0x80000000 + id) ∷ [] → First mid
     first_var mid id v e m t = record {
       row = [];
       sols = subst (λ ks. Sols G L ks []) (sym (kids_none G W x v)) none;
-      text = t ∙ ap (λ w. old.cells.items ++ (w ∷ [])) (ap (λ n. 0x80000000 + n) e ∙ ap (λ b. cond b (0x80000000 + index_of old.names.items (G.cell x)) (G.cell x)) (sym v));
-      names = m ∙ ap (λ b. cond b (named old.names.items (G.cell x)) old.names.items) (sym v);
+      text = t ∙ ap (λ w. old.cells.items ++ (w ∷ [])) (ap (λ n. 0x80000000 + n) e ∙ ap (λ b. cond b (0x80000000 + index old.names.items (G.cell x)) (G.cell x)) (sym v));
+      names = m ∙ ap (λ b. cond b (include old.names.items (G.cell x)) old.names.items) (sym v);
     }
 
     -- a symbol, with what its arguments gave
     module _ (one mid : Form) (s : G.is_v (G.cell x) ≡ false) (t : one.cells.items ≡ old.cells.items ++ G.cell x ∷ []) (m : one.names.items ≡ old.names.items) where
       same : met G.is_v old.names.items (G.cell x) ≡ one.names.items
-      same = ap (λ b. cond b (named old.names.items (G.cell x)) old.names.items) s ∙ sym m
+      same = ap (λ b. cond b (include old.names.items (G.cell x)) old.names.items) s ∙ sym m
 
       pub first_sym : Written G L (G.kids x) one mid → First mid
       first_sym R = record {
@@ -115,7 +113,7 @@ module _ (G : Graph) (W : Laws G) (L : Links) where
         text =
             R.text ∙ ap (λ w. w ++ number G.is_v one.names.items R.row) t
             ∙ append_assoc old.cells.items (G.cell x ∷ []) (number G.is_v one.names.items R.row)
-            ∙ ap₂ (λ w z. old.cells.items ++ (w ∷ number G.is_v z R.row)) (ap (λ b. cond b (0x80000000 + index_of old.names.items (G.cell x)) (G.cell x)) (sym s)) (sym same);
+            ∙ ap₂ (λ w z. old.cells.items ++ (w ∷ number G.is_v z R.row)) (ap (λ b. cond b (0x80000000 + index old.names.items (G.cell x)) (G.cell x)) (sym s)) (sym same);
         names = R.names ∙ ap (λ z. after G.is_v z R.row) (sym same);
       }
 

@@ -7,19 +7,13 @@ use Rattle.unification.specs.declared.form.Form.{Form}
 use Rattle.unification.specs.Graph.{Graph, Links, Sols, Made, val, SameVal}
 use Rattle.unification.specs.Close.{WholeFor, General}
 
--- where a variable stands among those met, or how many those are
-abbrev pub index_of : List ℕ → ℕ → ℕ
-index_of ms c = index ms c
-
-abbrev pub named : List ℕ → ℕ → List ℕ
-named ms c = include ms c
-
+-- the variables met, with the cell if it is one
 abbrev pub met : (ℕ → Bool) → List ℕ → ℕ → List ℕ
-met is_v ms c = cond (is_v c) (named ms c) ms
+met is_v ms c = cond (is_v c) (include ms c) ms
 
 abbrev pub number : (ℕ → Bool) → List ℕ → List ℕ → List ℕ
 number is_v ms [] = []
-number is_v ms (c ∷ cs) = cond (is_v c) (0x80000000 + index_of ms c) c ∷ number is_v (met is_v ms c) cs
+number is_v ms (c ∷ cs) = cond (is_v c) (0x80000000 + index ms c) c ∷ number is_v (met is_v ms c) cs
 
 abbrev pub after : (ℕ → Bool) → List ℕ → List ℕ → List ℕ
 after is_v ms [] = ms

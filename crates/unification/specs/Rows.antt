@@ -1,5 +1,5 @@
 -- Rows of cells in prefix order, over any choice of which cells are variables (is_v) and how many rows follow a cell (need). Assumes nothing.
-use Rattle.std.specs.Prelude.{◌≡◌, ℕ, pred, ◌+◌, ◌<◌, Bool, true, false, cond, List, [], ◌∷◌, ◌++◌, ◌≢◌}
+use Rattle.std.specs.Prelude.{◌≡◌, ℕ, pred, ◌+◌, ◌<◌, Bool, true, cond, List, [], ◌∷◌, ◌++◌}
 
 -- exactly k whole rows, one behind the other
 abbrev pub Wholes : (ℕ → ℕ) → ℕ → List ℕ → Type 0
@@ -21,8 +21,3 @@ WholeAt is_v need σ = (c : ℕ) → is_v c ≡ true → Wholes need 1 (σ c)
 -- a variable is a whole row by itself
 abbrev pub Leafy : (ℕ → Bool) → (ℕ → ℕ) → Type 0
 Leafy is_v need = (c : ℕ) → is_v c ≡ true → need c ≡ 0
-
--- some replacement of the variables of is_v makes one row of s and t
-pub record Relates (is_v : ℕ → Bool) (need : ℕ → ℕ) (s t : List ℕ) (r : Bool) : Type 0 where
-  pub yes : r ≡ true → (σ : ℕ → List ℕ) × WholeAt is_v need σ × (put is_v σ s ≡ put is_v σ t)
-  pub no : r ≡ false → (σ : ℕ → List ℕ) → WholeAt is_v need σ → put is_v σ s ≢ put is_v σ t

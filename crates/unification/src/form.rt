@@ -13,7 +13,7 @@ pub struct Form {
 }
 
 impl Form {
-    ghost use Rattle.unification.specs.Number.{index_of, named};
+    ghost use Rattle.cells.specs.Variables.{index, include};
 
     pub fn new() -> Form
         ensures cells { result.cells.items ≡ [] }
@@ -36,8 +36,8 @@ impl Form {
 
     // The number of a variable. One that was not met yet takes the next, if there is one.
     pub fn number_of(&mut self, variable: u32) -> Option<u32>
-        ensures number { MatchOption result (64 < length (named self.old.names.items variable))
-            (λ n. (n ≡ index_of self.old.names.items variable) × (self.new.names.items ≡ named self.old.names.items variable)) }
+        ensures number { MatchOption result (64 < length (include self.old.names.items variable))
+            (λ n. (n ≡ index self.old.names.items variable) × (self.new.names.items ≡ include self.old.names.items variable)) }
         ensures below { IfSome result (λ n. n < 64) }
         ensures cells { self.new.cells ≡ self.old.cells }
     {

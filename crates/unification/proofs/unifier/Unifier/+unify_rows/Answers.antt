@@ -1,8 +1,9 @@
-use Rattle.std.proofs.Common.{◌≡◌, ℕ, ◌+◌, ◌-◌, true, false, ◌∷◌, length, drop, lit<, sym, refl, ap, ◌∙◌, subst, subst₂, arith, length-append}
-use Rattle.unification.specs.Memory.{Has, need, size, binds, places_from, over}
+use Rattle.std.proofs.Common.{◌≡◌, ℕ, ◌+◌, ◌-◌, true, false, length, drop, lit<, sym, refl, ap, ◌∙◌, subst, subst₂, arith, length-append}
+use Rattle.unification.specs.Memory.{Has, need, size, binds, places_from}
 use Rattle.unification.specs.Close.{Fit, Out}
+use Rattle.unification.specs.Unifiers.{graph_of}
 use Rattle.unification.proofs.OutFacts.{out_none}
-use Rattle.unification.proofs.DownFacts.{law, first_low, rest_has, places_cons, kids_has, need_arity, need_small, Heads, Wrap, Headed, head_room, head_fit, back_fit, wrap_same, wrap_bind, wrap_back, wrap_down, clash, down_no, kids_out, along}
+use Rattle.unification.proofs.DownFacts.{law_of, first_low, rest_has, places_first, places_cons, kids_has, need_arity, need_small, Heads, Wrap, Headed, head_room, head_fit, back_fit, wrap_same, wrap_bind, wrap_back, wrap_down, clash, down_no, kids_out, along}
 use Rattle.unification.proofs.unifier.Unifier.+unify_rows.Goals as goal
 use Rattle.unification.proofs.unifier.Unifier.+unify_rows.Goals.{then-x-y+then-binds, then-x-y+else-binds+then-binds-2, then-x-y+else-binds+else-binds-2+else-c-d+else-not-unify_rows, else-x-y, After-head-y, After-end-l}
 
@@ -18,10 +19,10 @@ pub returns-then-n-eq0-clause-out : goal.returns-then-n-eq0-clause-out
 returns-then-n-eq0-clause-out t c =
     let u = c.args.self.now in
     let mem = u.cells.now in
-    let G = over u.kinds mem in
+    let G = graph_of u in
     let L = u.links.items in
     subst (λ n. Out G (length mem) 512 L L (places_from mem c.args.i n) (places_from mem c.args.j n) true) (sym c.if-n-eq0.true)
-    (out_none G (law mem u.memory u.kinds) (length mem) 512 L u.fit)
+    (out_none G (law_of u) (length mem) 512 L u.fit)
 
 pub push-requires : goal.push-requires
 push-requires t c = (lit< tt, head_room c.args.self.now c.args.i c.args.j c.head-x.result.0 c.head-y.result.0 (heads t (goal.at.push-requires t c).After-head-y) c.if-x-y.true)
@@ -35,22 +36,17 @@ push-requires-else-c-d t c = (lit< tt, head_room c.args.self.now c.args.i c.args
 pub invariant_of-self-clause-fit : goal.invariant_of-self-clause-fit
 invariant_of-self-clause-fit t c =
     let u = c.args.self.now in
-    subst (Fit (over u.kinds u.cells.now) (length u.cells.now) 512) (sym c.push.ensures.items) (head_fit c.args.self.now c.args.i c.args.j c.head-x.result.0 c.head-y.result.0 (heads t (goal.at.invariant_of-self-clause-fit t c).After-head-y) c.if-x-y.true)
+    subst (Fit (graph_of u) (length u.cells.now) 512) (sym c.push.ensures.items) (head_fit c.args.self.now c.args.i c.args.j c.head-x.result.0 c.head-y.result.0 (heads t (goal.at.invariant_of-self-clause-fit t c).After-head-y) c.if-x-y.true)
 
 pub invariant_of-self-then-binds-2-clause-fit : goal.invariant_of-self-then-binds-2-clause-fit
 invariant_of-self-then-binds-2-clause-fit t c =
     let u = c.args.self.now in
-    subst (Fit (over u.kinds u.cells.now) (length u.cells.now) 512) (sym c.push-then-binds-2.ensures.items) (back_fit c.args.self.now c.args.i c.args.j c.head-x.result.0 c.head-y.result.0 (heads t (goal.at.invariant_of-self-then-binds-2-clause-fit t c).After-head-y) c.if-x-y.true)
+    subst (Fit (graph_of u) (length u.cells.now) 512) (sym c.push-then-binds-2.ensures.items) (back_fit c.args.self.now c.args.i c.args.j c.head-x.result.0 c.head-y.result.0 (heads t (goal.at.invariant_of-self-then-binds-2-clause-fit t c).After-head-y) c.if-x-y.true)
 
 pub invariant_of-self-else-c-d-clause-fit : goal.invariant_of-self-else-c-d-clause-fit
 invariant_of-self-else-c-d-clause-fit t c =
     let u = c.args.self.now in
-    subst (Fit (over u.kinds u.cells.now) (length u.cells.now) 512) (sym c.push-else-c-d.ensures.items) (head_fit c.args.self.now c.args.i c.args.j c.head-x.result.0 c.head-y.result.0 (heads t (goal.at.invariant_of-self-else-c-d-clause-fit t c).After-head-y) c.if-x-y.true)
-
--- the equations, beginning with the first
-places : (t : ℕ) (c : After-head-y t) (at : ℕ) → Has c.args.n (drop at c.args.self.now.cells.now) → let mem = c.args.self.now.cells.now in
-    places_from mem at c.args.n ≡ at ∷ places_from mem (at + size 1 (drop at mem)) (c.args.n - 1)
-places t c at h = let mem = c.args.self.now.cells.now in places_cons mem c.args.n at c.if-n-eq0.false h (at + size 1 (drop at mem)) refl
+    subst (Fit (graph_of u) (length u.cells.now) 512) (sym c.push-else-c-d.ensures.items) (head_fit c.args.self.now c.args.i c.args.j c.head-x.result.0 c.head-y.result.0 (heads t (goal.at.invariant_of-self-else-c-d-clause-fit t c).After-head-y) c.if-x-y.true)
 
 pub returns-then-c-d-clause-out : goal.returns-then-c-d-clause-out
 returns-then-c-d-clause-out t c =
@@ -59,7 +55,7 @@ returns-then-c-d-clause-out t c =
     let at = (goal.at.returns-then-c-d-clause-out t c).After-head-y in
     let sx = ap (binds u.kinds) (sym c.head-x.ensures.cell) ∙ sym c.if-binds.ensures in
     let sy = ap (binds u.kinds) (sym c.head-y.ensures.cell) ∙ sym c.if-binds-2.ensures in
-    subst₂ (λ P Q. Out (over u.kinds mem) (length mem) 512 u.links.items u.links.items P Q false) (sym (places t at c.args.i c.requires.left)) (sym (places t at c.args.j c.requires.right))
+    subst₂ (λ P Q. Out (graph_of u) (length mem) 512 u.links.items u.links.items P Q false) (sym (places_first mem c.args.n c.args.i c.if-n-eq0.false c.requires.left)) (sym (places_first mem c.args.n c.args.j c.if-n-eq0.false c.requires.right))
     (clash c.args.self.now c.args.i c.args.j c.head-x.result.0 c.head-y.result.0 (heads t at) sx sy _ _ (λ e. c.if-c-d.true (c.head-x.ensures.cell ∙ e ∙ sym c.head-y.ensures.cell)))
 
 pub unify_rows-requires : goal.unify_rows-requires
@@ -89,7 +85,7 @@ returns-then-not-unify_rows-clause-out t c =
     let mx = many ∙ ap need c.head-x.ensures.cell in
     let my = many ∙ ap need (c.if-c-d.false ∙ c.head-y.ensures.cell) in
     let K = c.unify_rows.new.self.links.items in
-    subst₂ (λ P Q. Out (over u.kinds mem) (length mem) 512 u.links.items K P Q false) (sym (places t at c.args.i c.requires.left)) (sym (places t at c.args.j c.requires.right))
+    subst₂ (λ P Q. Out (graph_of u) (length mem) 512 u.links.items K P Q false) (sym (places_first mem c.args.n c.args.i c.if-n-eq0.false c.requires.left)) (sym (places_first mem c.args.n c.args.j c.if-n-eq0.false c.requires.right))
     (down_no c.args.self.now c.args.i c.args.j c.head-x.result.0 c.head-y.result.0 (heads t at) sx sy K _ _ (kids_out c.args.self.now c.args.i c.args.j c.head-x.result.0 c.head-y.result.0 (heads t at) c.arity_of.result mx my c.push-else-c-d.new.self.items K false c.push-else-c-d.ensures.items c.if-not-unify_rows.ensures.out))
 
 -- whichever way the first equation went
@@ -97,7 +93,7 @@ headed : (t : ℕ) (c : After-end-l t) → Heads c.args.self.now c.args.i c.args
 headed t c h =
     let u = c.args.self.now in
     let mem = u.cells.now in
-    let G = over u.kinds mem in
+    let G = graph_of u in
     elim c.if-x-y.branch [
       | then-x-y+then-binds w ↦
           subst (λ v. Headed u v c.args.i c.args.j) (sym w.self-is) (record {
@@ -169,7 +165,7 @@ returns-clause-out t c =
     let D = headed t here.After-end-l (heads t here.After-head-y) in
     let (k, l) = behind t here.After-end-l D in
     let N = c.unify_rows-2.new.self.links.items in
-    subst₂ (λ P Q. Out (over u.kinds mem) (length mem) 512 u.links.items N P Q c.unify_rows-2.result)
+    subst₂ (λ P Q. Out (graph_of u) (length mem) 512 u.links.items N P Q c.unify_rows-2.result)
     (sym (places_cons mem c.args.n c.args.i c.if-n-eq0.false c.requires.left c.end-k.result k))
     (sym (places_cons mem c.args.n c.args.j c.if-n-eq0.false c.requires.right c.end-l.result l))
     (D.wrap N _ _ c.unify_rows-2.result

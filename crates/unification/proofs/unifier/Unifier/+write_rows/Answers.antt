@@ -1,44 +1,38 @@
-use Rattle.std.proofs.Common.{◌≡◌, ℕ, ◌+◌, ◌-◌, ◌<◌, true, false, [], ◌∷◌, ◌++◌, length, drop, Some, None, sym, refl, ap, ◌∙◌, subst, subst₂, arith, length-append}
-use Rattle.unification.specs.Memory.{Has, need, size, binds, cell_at, places_from, over}
-use Rattle.unification.specs.Number.{index_of, named, number, Wrote}
-use Rattle.unification.proofs.DownFacts.{law, rest_has, places_cons, kids_has, need_arity, need_small}
+use Rattle.std.proofs.Common.{◌≡◌, ℕ, ◌+◌, ◌<◌, true, false, [], ◌∷◌, ◌++◌, length, drop, Some, None, sym, ap, ◌∙◌, subst, subst₂, arith, length-append}
+use Rattle.unification.specs.Memory.{Has, need, binds, cell_at, places_from}
+use Rattle.cells.specs.Variables.{index, include}
+use Rattle.unification.specs.Number.{number, Wrote}
+use Rattle.unification.specs.Unifiers.{graph_of}
+use Rattle.unification.proofs.DownFacts.{law_of, rest_has, places_first, places_cons, kids_has, need_of, need_small}
 use Rattle.unification.proofs.WriteFacts.{w_none, w_names, First, first_then, first_var, first_sym, w_down}
 use Rattle.unification.proofs.unifier.Unifier.+write_rows.Goals as goal
-use Rattle.unification.proofs.unifier.Unifier.+write_rows.Goals.{then-binds+in_ok-number+in_ok-push, else-binds+in_ok-push-2+in_ok-write_rows, After-head-x, After-arity_of, After-end}
-
--- the places, beginning with the first
-places : (t : ℕ) (c : After-head-x t) → let mem = c.args.self.now.cells.now in
-    places_from mem c.args.i c.args.n ≡ c.args.i ∷ places_from mem (c.args.i + size 1 (drop c.args.i mem)) (c.args.n - 1)
-places t c = let mem = c.args.self.now.cells.now in places_cons mem c.args.n c.args.i c.if-n-eq0.false c.requires (c.args.i + size 1 (drop c.args.i mem)) refl
-
--- a cell that is not bound has as many arguments as the code says
-many : (t : ℕ) (c : After-arity_of t) → c.arity_of.result ≡ need (cell_at c.args.self.now.cells.now c.head-x.result.0)
-many t c = c.arity_of.ensures ∙ need_arity c.head-x.result.1 (omega arith) ∙ ap need c.head-x.ensures.cell
+use Rattle.unification.proofs.unifier.Unifier.+write_rows.Goals.{then-binds+in_ok-number+in_ok-push, else-binds+in_ok-push-2+in_ok-write_rows, After-end}
 
 pub returns-then-n-eq0 : goal.returns-then-n-eq0
 returns-then-n-eq0 t c =
     let u = c.args.self.now in
-    let G = over u.kinds u.cells.now in
+    let G = graph_of u in
     subst (λ n. Wrote G u.links.items (places_from u.cells.now c.args.i n) c.args.form.now c.args.form.now (Some tt)) (sym c.if-n-eq0.true)
-    (w_none G (law u.cells.now u.memory u.kinds) u.links.items c.args.form.now)
+    (w_none G (law_of u) u.links.items c.args.form.now)
 
 pub returns-in_err-number : goal.returns-in_err-number
 returns-in_err-number t c =
     let u = c.args.self.now in
     let mem = u.cells.now in
-    let G = over u.kinds mem in
+    let G = graph_of u in
     let x = c.head-x.result.0 in
     let old = c.args.form.now in
     let vx : binds u.kinds (cell_at mem x) ≡ true = ap (binds u.kinds) (sym c.head-x.ensures.cell) ∙ sym c.if-binds.ensures in
-    let big : 64 < length (named old.names.items (cell_at mem x)) = subst (λ w. 64 < length (named old.names.items w)) c.head-x.ensures.cell c.in_err-number.ensures.number in
-    subst₂ (λ P r. Wrote G u.links.items P old c.number_of.new.self r) (sym (places t (goal.at.returns-in_err-number t c).After-head-x)) (sym c.from_residual.ensures)
-    (w_names G (law mem u.memory u.kinds) u.links.items c.args.i x c.head-x.ensures.place old _ c.number_of.new.self vx big)
+    let big : 64 < length (include old.names.items (cell_at mem x)) = subst (λ w. 64 < length (include old.names.items w)) c.head-x.ensures.cell c.in_err-number.ensures.number in
+    subst₂ (λ P r. Wrote G u.links.items P old c.number_of.new.self r) (sym (places_first mem c.args.n c.args.i c.if-n-eq0.false c.requires)) (sym c.from_residual.ensures)
+    (w_names G (law_of u) u.links.items c.args.i x c.head-x.ensures.place old _ c.number_of.new.self vx big)
 
 pub write_rows-requires : goal.write_rows-requires
 write_rows-requires t c =
     let u = c.args.self.now in
     let mem = u.cells.now in
-    let em = many t (goal.at.write_rows-requires t c).After-arity_of in
+    let x = c.head-x.result.0 in
+    let em = need_of mem x c.head-x.result.1 c.arity_of.result (omega arith) c.head-x.ensures.cell c.arity_of.ensures in
     let old = c.args.form.now in
     let one = c.push-else-binds.new.self in
     let longer = ap length c.in_ok-push-2.ensures.cells in (
@@ -50,24 +44,23 @@ pub returns-in_err-write_rows : goal.returns-in_err-write_rows
 returns-in_err-write_rows t c =
     let u = c.args.self.now in
     let mem = u.cells.now in
-    let G = over u.kinds mem in
+    let G = graph_of u in
     let x = c.head-x.result.0 in
     let old = c.args.form.now in
     let sx : binds u.kinds (cell_at mem x) ≡ false = ap (binds u.kinds) (sym c.head-x.ensures.cell) ∙ sym c.if-binds.ensures in
-    let here = goal.at.returns-in_err-write_rows t c in
-    subst₂ (λ P r. Wrote G u.links.items P old c.write_rows.new.form r) (sym (places t here.After-head-x)) (sym c.from_residual-in_err-write_rows.ensures)
-    (w_down G (law mem u.memory u.kinds) u.links.items c.args.i x c.head-x.ensures.place old c.push-else-binds.new.self c.write_rows.new.form sx
+    subst₂ (λ P r. Wrote G u.links.items P old c.write_rows.new.form r) (sym (places_first mem c.args.n c.args.i c.if-n-eq0.false c.requires)) (sym c.from_residual-in_err-write_rows.ensures)
+    (w_down G (law_of u) u.links.items c.args.i x c.head-x.ensures.place old c.push-else-binds.new.self c.write_rows.new.form sx
     (c.in_ok-push-2.ensures.cells ∙ ap (λ w. old.cells.items ++ w ∷ []) c.head-x.ensures.cell) (ap (λ v. v.items) c.in_ok-push-2.ensures.names) _ c.write_rows.new.form
-    (subst (λ k. Wrote G u.links.items (places_from mem (x + 1) k) c.push-else-binds.new.self c.write_rows.new.form None) (many t here.After-arity_of) c.in_err-write_rows.ensures))
+    (subst (λ k. Wrote G u.links.items (places_from mem (x + 1) k) c.push-else-binds.new.self c.write_rows.new.form None) (need_of mem x c.head-x.result.1 c.arity_of.result (omega arith) c.head-x.ensures.cell c.arity_of.ensures) c.in_err-write_rows.ensures))
 
 -- whichever way the first place's row was written
 first : (t : ℕ) (c : After-end t) → let u = c.args.self.now in
-    First (over u.kinds u.cells.now) (law u.cells.now u.memory u.kinds) u.links.items c.args.i c.head-x.result.0 c.head-x.ensures.place c.args.form.now c.if-binds.form
+    First (graph_of u) (law_of u) u.links.items c.args.i c.head-x.result.0 c.head-x.ensures.place c.args.form.now c.if-binds.form
 first t c =
     let u = c.args.self.now in
     let mem = u.cells.now in
-    let G = over u.kinds mem in
-    let W = law mem u.memory u.kinds in
+    let G = graph_of u in
+    let W = law_of u in
     let L = u.links.items in
     let x = c.head-x.result.0 in
     let old = c.args.form.now in
@@ -76,11 +69,11 @@ first t c =
           subst (First G W L c.args.i x c.head-x.ensures.place old) (sym w.form-is)
           (first_var G W L c.args.i x c.head-x.ensures.place old w.push.new.self w.in_ok-number.number
           (ap (binds u.kinds) (sym c.head-x.ensures.cell) ∙ sym w.if-binds.ensures)
-          (w.in_ok-number.ensures.number.0 ∙ ap (index_of old.names.items) c.head-x.ensures.cell)
-          (ap (λ v. v.items) w.in_ok-push.ensures.names ∙ w.in_ok-number.ensures.number.1 ∙ ap (named old.names.items) c.head-x.ensures.cell)
+          (w.in_ok-number.ensures.number.0 ∙ ap (index old.names.items) c.head-x.ensures.cell)
+          (ap (λ v. v.items) w.in_ok-push.ensures.names ∙ w.in_ok-number.ensures.number.1 ∙ ap (include old.names.items) c.head-x.ensures.cell)
           (w.in_ok-push.ensures.cells ∙ ap (λ v. v.items ++ (0x80000000 + w.in_ok-number.number) ∷ []) w.in_ok-number.ensures.cells))
       | else-binds+in_ok-push-2+in_ok-write_rows w ↦
-          (let em : w.arity_of.result ≡ need (cell_at mem x) = w.arity_of.ensures ∙ need_arity c.head-x.result.1 (omega arith) ∙ ap need c.head-x.ensures.cell in
+          (let em : w.arity_of.result ≡ need (cell_at mem x) = need_of mem x c.head-x.result.1 w.arity_of.result (omega arith) c.head-x.ensures.cell w.arity_of.ensures in
           subst (First G W L c.args.i x c.head-x.ensures.place old) (sym w.form-is)
           (first_sym G W L c.args.i x c.head-x.ensures.place old w.push-else-binds.new.self w.write_rows.new.form
           (ap (binds u.kinds) (sym c.head-x.ensures.cell) ∙ sym w.if-binds.ensures)
@@ -101,7 +94,7 @@ pub returns : goal.returns
 returns t c =
     let u = c.args.self.now in
     let mem = u.cells.now in
-    let G = over u.kinds mem in
+    let G = graph_of u in
     subst (λ P. Wrote G u.links.items P c.args.form.now c.write_rows-2.new.form c.write_rows-2.result) (sym (places_cons mem c.args.n c.args.i c.if-n-eq0.false c.requires c.end.result c.end.ensures.end))
-    (first_then G (law mem u.memory u.kinds) u.links.items c.args.i c.head-x.result.0 c.head-x.ensures.place c.args.form.now _ c.if-binds.form c.write_rows-2.new.form c.write_rows-2.result
+    (first_then G (law_of u) u.links.items c.args.i c.head-x.result.0 c.head-x.ensures.place c.args.form.now _ c.if-binds.form c.write_rows-2.new.form c.write_rows-2.result
     (first t (goal.at.returns t c).After-end) c.write_rows-2.ensures)

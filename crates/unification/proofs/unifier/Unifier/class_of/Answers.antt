@@ -1,16 +1,17 @@
 use Rattle.std.proofs.Common.{length, sym, ap, ◌∙◌, subst}
-use Rattle.unification.specs.Memory.{over, binds}
+use Rattle.unification.specs.Memory.{binds}
 use Rattle.unification.specs.Close.{Place}
+use Rattle.unification.specs.Unifiers.{graph_of}
 use Rattle.unification.proofs.FitFacts.{find_place}
 use Rattle.unification.proofs.DownFacts.{place_low, place_sym}
 use Rattle.unification.proofs.unifier.Unifier.class_of.Goals as goal
 use Rattle.unification.proofs.unifier.Unifier.class_of.Goals.{After-root-root}
 
-stands : (c : After-root-root) → Place (over c.args.self.now.kinds c.args.self.now.cells.now) (length c.args.self.now.cells.now) c.root-root.result
+stands : (c : After-root-root) → Place (graph_of c.args.self.now) (length c.args.self.now.cells.now) c.root-root.result
 stands c =
     let u = c.args.self.now in
-    subst (Place (over u.kinds u.cells.now) (length u.cells.now)) (sym c.root-root.ensures)
-    (find_place (over u.kinds u.cells.now) (length u.cells.now) u.links.items c.args.place u.fit.ends c.requires)
+    subst (Place (graph_of u) (length u.cells.now)) (sym c.root-root.ensures)
+    (find_place (graph_of u) (length u.cells.now) u.links.items c.args.place u.fit.ends c.requires)
 
 pub cell-requires : goal.cell-requires
 cell-requires c = let u = c.args.self.now in place_low u.cells.now u.memory u.kinds c.root-root.result (stands (goal.at.cell-requires c).After-root-root)

@@ -1,16 +1,16 @@
 use Rattle.std.proofs.Common.{◌≡◌, [], ◌∷◌, length, Some, None, Err, sym, refl, subst, arith}
 use Rattle.std.proofs.lemmas.Grind.{common_steps}
 use Rattle.unification.specs.declared.fault.FormFault.TheVariants.{TooLarge}
-use Rattle.unification.specs.Memory.{over}
 use Rattle.unification.specs.Number.{Wrote, Common}
-use Rattle.unification.proofs.DownFacts.{law, same_graph}
+use Rattle.unification.specs.Unifiers.{graph_of}
+use Rattle.unification.proofs.DownFacts.{law_of, same_graph}
 use Rattle.unification.proofs.FormFacts.{form_some, form_over}
 use Rattle.unification.proofs.unifier.Unifier.common_form.Goals as goal
 use Rattle.unification.proofs.unifier.Unifier.common_form.Goals.{After-write_rows}
 
 -- what is written, by the graph of the memory as it was
 wrote : (c : After-write_rows) → let u = c.args.self.now in
-    Wrote (over u.kinds u.cells.now) c.unify.new.self.links.items (c.args.p ∷ []) c.new-form.result c.write_rows.new.form c.write_rows.result
+    Wrote (graph_of u) c.unify.new.self.links.items (c.args.p ∷ []) c.new-form.result c.write_rows.new.form c.write_rows.result
 wrote c =
     let u = c.args.self.now in
     let v = c.unify.new.self in
@@ -20,21 +20,21 @@ wrote c =
 pub returns-in_err-ok_or : goal.returns-in_err-ok_or
 returns-in_err-ok_or c =
     let u = c.args.self.now in
-    let G = over u.kinds u.cells.now in
+    let G = graph_of u in
     let L = c.unify.new.self.links.items in
     let none : c.write_rows.result ≡ None = grind (arith, common_steps) in
     let large : c.from_residual.result ≡ Err TooLarge = grind (arith, common_steps) in
     subst (Common G c.args.p c.args.q) (sym large)
-    (form_over G (law u.cells.now u.memory u.kinds) (length u.cells.now) 512 c.args.p c.args.q L (c.if-not-unify.ensures.out refl) (c.if-not-unify.ensures.solved refl)
+    (form_over G (law_of u) (length u.cells.now) 512 c.args.p c.args.q L (c.if-not-unify.ensures.out refl) (c.if-not-unify.ensures.solved refl)
     c.new-form.result c.write_rows.new.form c.new-form.ensures.cells c.new-form.ensures.names
     (subst (Wrote G L (c.args.p ∷ []) c.new-form.result c.write_rows.new.form) none (wrote (goal.at.returns-in_err-ok_or c).After-write_rows)))
 
 pub returns : goal.returns
 returns c =
     let u = c.args.self.now in
-    let G = over u.kinds u.cells.now in
+    let G = graph_of u in
     let L = c.unify.new.self.links.items in
     let some : c.write_rows.result ≡ Some tt = grind (arith, common_steps) in
-    form_some G (law u.cells.now u.memory u.kinds) (length u.cells.now) 512 c.args.p c.args.q L (c.if-not-unify.ensures.out refl) (c.if-not-unify.ensures.solved refl)
+    form_some G (law_of u) (length u.cells.now) 512 c.args.p c.args.q L (c.if-not-unify.ensures.out refl) (c.if-not-unify.ensures.solved refl)
     c.new-form.result c.write_rows.new.form c.new-form.ensures.cells c.new-form.ensures.names
     (subst (Wrote G L (c.args.p ∷ []) c.new-form.result c.write_rows.new.form) some (wrote (goal.at.returns c).After-write_rows))

@@ -1,7 +1,8 @@
 use Rattle.std.proofs.Common.{◌≡◌, false, get_or, cond, length, sym, ap, ◌∙◌, arith}
 use Rattle.unification.specs.Graph.{find, canon}
 use Rattle.unification.specs.Codes.{is_var}
-use Rattle.unification.specs.Memory.{over, binds, cell_at}
+use Rattle.unification.specs.Memory.{binds, cell_at}
+use Rattle.unification.specs.Unifiers.{graph_of}
 use Rattle.unification.proofs.MemFacts.{low_var, cell_low}
 use Rattle.unification.proofs.FitFacts.{place_from}
 use Rattle.unification.proofs.unifier.Unifier.head.Goals as goal
@@ -14,7 +15,7 @@ here c =
     let v : is_var c.args.at ≡ false = low_var c.args.at (omega (arith, u.memory.short)) in
     cell_low u.cells.now c.args.at v c.requires
 
-comes : (c : After-binds) → canon (over c.args.self.now.kinds c.args.self.now.cells.now) c.args.at ≡ cond c.binds.result (get_or c.args.self.now.cells.now c.args.at 0) c.args.at
+comes : (c : After-binds) → canon (graph_of c.args.self.now) c.args.at ≡ cond c.binds.result (get_or c.args.self.now.cells.now c.args.at 0) c.args.at
 comes c =
     let u = c.args.self.now in
     ap (λ w. cond (binds u.kinds w) w c.args.at) (here c) ∙ ap (λ b. cond b (get_or u.cells.now c.args.at 0) c.args.at) (sym c.binds.ensures)
@@ -22,13 +23,13 @@ comes c =
 pub class_of-requires : goal.class_of-requires
 class_of-requires c =
     let u = c.args.self.now in
-    place_from (over u.kinds u.cells.now) (length u.cells.now) c.args.at (get_or u.cells.now c.args.at 0) c.requires
+    place_from (graph_of u) (length u.cells.now) c.args.at (get_or u.cells.now c.args.at 0) c.requires
     (comes (goal.at.class_of-requires c).After-binds ∙ ap (λ b. cond b (get_or u.cells.now c.args.at 0) c.args.at) c.if-binds.true)
 
 pub class_of-requires-else-binds : goal.class_of-requires-else-binds
 class_of-requires-else-binds c =
     let u = c.args.self.now in
-    place_from (over u.kinds u.cells.now) (length u.cells.now) c.args.at c.args.at c.requires
+    place_from (graph_of u) (length u.cells.now) c.args.at c.args.at c.requires
     (comes (goal.at.class_of-requires-else-binds c).After-binds ∙ ap (λ b. cond b (get_or u.cells.now c.args.at 0) c.args.at) c.if-binds.false)
 
 pub returns-then-binds-clause-place : goal.returns-then-binds-clause-place

@@ -3,11 +3,12 @@ use Rattle.unification.specs.declared.unifier.Unifier.{Unifier}
 use Rattle.unification.specs.declared.mark.Mark.{Mark}
 use Rattle.unification.specs.declared.mark.Mark.TheVariants.{Open}
 use Rattle.unification.specs.Graph.{Sol}
-use Rattle.unification.specs.Memory.{over, binds}
+use Rattle.unification.specs.Memory.{binds}
 use Rattle.unification.specs.Finite.{mark_at, Ended}
 use Rattle.unification.specs.Close.{Place}
+use Rattle.unification.specs.Unifiers.{graph_of}
 use Rattle.unification.proofs.OutFacts.{true_not}
-use Rattle.unification.proofs.DownFacts.{law}
+use Rattle.unification.proofs.DownFacts.{law_of}
 use Rattle.unification.proofs.FinFacts.{none_open, none_done}
 use Rattle.unification.proofs.SolveFacts.{ends_at, sol_var, sol_down, solved_all}
 use Rattle.unification.proofs.unifier.Unifier.is_solvable.Goals as goal
@@ -25,22 +26,22 @@ pub class_of-root-requires : goal.class_of-root-requires
 class_of-root-requires c =
     let u = c.args.self.now in
     let e = c.as_slice-from-items.ensures.value in
-    subst (λ L. Place (over u.kinds u.cells.now) (length u.cells.now) (get_or {A = ℕ × ℕ} L c.loop-from.from-index (0, 0)).0) (sym e)
-    (ends_at (over u.kinds u.cells.now) (length u.cells.now) u.links.items c.loop-from.from-index u.fit.ends (omega (arith, c.loop-from-test.true, ap length e)))
+    subst (λ L. Place (graph_of u) (length u.cells.now) (get_or {A = ℕ × ℕ} L c.loop-from.from-index (0, 0)).0) (sym e)
+    (ends_at (graph_of u) (length u.cells.now) u.links.items c.loop-from.from-index u.fit.ends (omega (arith, c.loop-from-test.true, ap length e)))
 
 -- what is kept, and that the place has its row
 record Kept (u : Unifier) (marks : List Mark) (x : ℕ) : Type 0 where
   pub sheet : length marks ≡ 512
   pub closed : (o : ℕ) → mark_at marks o ≡ Open → ⊥
-  pub ended : Ended (over u.kinds u.cells.now) u.links.items marks
-  pub has : binds u.kinds x ≡ true → (row : List ℕ) × Sol (over u.kinds u.cells.now) u.links.items x row
+  pub ended : Ended (graph_of u) u.links.items marks
+  pub has : binds u.kinds x ≡ true → (row : List ℕ) × Sol (graph_of u) u.links.items x row
 
 pub loop-from-preserved : goal.loop-from-preserved
 loop-from-preserved c =
     let u = c.args.self.now in
     let mem = u.cells.now in
-    let G = over u.kinds mem in
-    let W = law mem u.memory u.kinds in
+    let G = graph_of u in
+    let W = law_of u in
     let L = u.links.items in
     let i = c.loop-from.from-index in
     let x = (get_or c.as_slice-from-items.result.now i (0, 0)).0 in
@@ -86,6 +87,6 @@ pub returns-clause-yes : goal.returns-clause-yes
 returns-clause-yes c =
     let u = c.args.self.now in
     let e = c.as_slice-from-items.ensures.value in
-    λ _. solved_all (over u.kinds u.cells.now) (law u.cells.now u.memory u.kinds) u.links.items (λ j h.
-    subst (λ L. binds u.kinds (get_or {A = ℕ × ℕ} L j (0, 0)).0 ≡ true → (row : List ℕ) × Sol (over u.kinds u.cells.now) u.links.items (get_or {A = ℕ × ℕ} L j (0, 0)).0 row) e
+    λ _. solved_all (graph_of u) (law_of u) u.links.items (λ j h.
+    subst (λ L. binds u.kinds (get_or {A = ℕ × ℕ} L j (0, 0)).0 ≡ true → (row : List ℕ) × Sol (graph_of u) u.links.items (get_or {A = ℕ × ℕ} L j (0, 0)).0 row) e
     (c.loop-from.invariant.rows j (omega (arith, c.loop-from-test.false, ap length e))))
