@@ -16,12 +16,6 @@ returns-in-Some-clause-number c =
     subst (Says c.args.self.now.names.items c.args.variable) c.in-Some.is (says (goal.at.returns-in-Some-clause-number c).After-place_among) in
     (m.0, sym m.2)
 
-pub returns-in-Some-clause-below : goal.returns-in-Some-clause-below
-returns-in-Some-clause-below c =
-    let m : Says c.args.self.now.names.items c.args.variable (Some c.in-Some.i) =
-    subst (Says c.args.self.now.names.items c.args.variable) c.in-Some.is (says (goal.at.returns-in-Some-clause-below c).After-place_among) in
-    omega (arith, m.1, c.args.self.now.few)
-
 pub returns-in_err-ok-clause-number : goal.returns-in_err-ok-clause-number
 returns-in_err-ok-clause-number c =
     let m : Says c.args.self.now.names.items c.args.variable None =
