@@ -107,15 +107,15 @@ pub record Heads (u : Unifier) (i j x y : ℕ) : Type 0 where
   pub ey : y ≡ norm (graph_of u) u.links.items j
 
 -- what becomes of the equations behind one that turned the links L into K becomes of all
-abbrev pub Wrap : Graph → ℕ → Links → Links → ℕ → ℕ → Type 0
-Wrap G n L K i j = (N : Links) (ps qs : List ℕ) (r : Bool) → Out G n 512 K N ps qs r → Out G n 512 L N (i ∷ ps) (j ∷ qs) r
+abbrev pub Wrap : Graph → Links → Links → ℕ → ℕ → Type 0
+Wrap G L K i j = (N : Links) (ps qs : List ℕ) (r : Bool) → Out G K N ps qs r → Out G L N (i ∷ ps) (j ∷ qs) r
 
 -- after one equation
 pub record Headed (u v : Unifier) (i j : ℕ) : Type 0 where
   pub cells : v.cells ≡ u.cells
   pub kinds : v.kinds ≡ u.kinds
   pub longer : length u.links.items ≤ length v.links.items
-  pub wrap : Wrap (graph_of u) (length u.cells.now) u.links.items v.links.items i j
+  pub wrap : Wrap (graph_of u) u.links.items v.links.items i j
 
 module _ (u : Unifier) (i j x y : ℕ) (H : Heads u i j x y) where
   abbrev mem : List ℕ
@@ -151,40 +151,40 @@ module _ (u : Unifier) (i j x y : ℕ) (H : Heads u i j x y) where
   pub back_fit : x ≢ y → Fit G (length mem) 512 (L ++ ((y, x) ∷ []))
   back_fit ne = fit_more G (length mem) 512 L u.fit y x (λ e. ne (sym e)) ry rx py px
 
-  pub wrap_same : x ≡ y → Wrap G (length mem) L L i j
-  wrap_same e N ps qs b O = out_same G W (length mem) 512 L N i j ps qs b (sym H.ex ∙ e ∙ H.ey) O
+  pub wrap_same : x ≡ y → Wrap G L L i j
+  wrap_same e N ps qs b O = out_same G W L N i j ps qs b (sym H.ex ∙ e ∙ H.ey) O
 
-  pub wrap_bind : binds u.kinds (cell_at mem x) ≡ true → Wrap G (length mem) L (L ++ ((x, y) ∷ [])) i j
-  wrap_bind v N ps qs b O = out_bind G W (length mem) 512 L i j x y (sym H.ex) (sym H.ey) rx ry N ps qs b v O
+  pub wrap_bind : binds u.kinds (cell_at mem x) ≡ true → Wrap G L (L ++ ((x, y) ∷ [])) i j
+  wrap_bind v N ps qs b O = out_bind G W L i j x y (sym H.ex) (sym H.ey) rx ry N ps qs b v O
 
-  pub wrap_back : binds u.kinds (cell_at mem y) ≡ true → Wrap G (length mem) L (L ++ ((y, x) ∷ [])) i j
+  pub wrap_back : binds u.kinds (cell_at mem y) ≡ true → Wrap G L (L ++ ((y, x) ∷ [])) i j
   wrap_back v N ps qs b O =
-      out_sym G W (length mem) 512 L N (j ∷ qs) (i ∷ ps) b
-      (out_bind G W (length mem) 512 L j i y x (sym H.ey) (sym H.ex) ry rx N qs ps b v (out_sym G W (length mem) 512 (L ++ ((y, x) ∷ [])) N ps qs b O))
+      out_sym G W L N (j ∷ qs) (i ∷ ps) b
+      (out_bind G W L j i y x (sym H.ey) (sym H.ex) ry rx N qs ps b v (out_sym G W (L ++ ((y, x) ∷ [])) N ps qs b O))
 
   module _ (sx : binds u.kinds (cell_at mem x) ≡ false) (sy : binds u.kinds (cell_at mem y) ≡ false) where
-    pub clash : (ps qs : List ℕ) → cell_at mem x ≢ cell_at mem y → Out G (length mem) 512 L L (i ∷ ps) (j ∷ qs) false
-    clash ps qs ne = out_clash G W (length mem) 512 L i j x y (sym H.ex) (sym H.ey) rx ry sx sy u.fit ps qs ne
+    pub clash : (ps qs : List ℕ) → cell_at mem x ≢ cell_at mem y → Out G L L (i ∷ ps) (j ∷ qs) false
+    clash ps qs ne = out_clash G W L i j x y (sym H.ex) (sym H.ey) rx ry sx sy ps qs ne
 
-    pub down_no : (N : Links) (ps qs : List ℕ) → Out G (length mem) 512 (L ++ ((x, y) ∷ [])) N (kids_at mem x) (kids_at mem y) false → Out G (length mem) 512 L N (i ∷ ps) (j ∷ qs) false
-    down_no N ps qs O = out_down_no G W (length mem) 512 L i j x y (sym H.ex) (sym H.ey) rx ry sx sy N ps qs O
+    pub down_no : (N : Links) (ps qs : List ℕ) → Out G (L ++ ((x, y) ∷ [])) N (kids_at mem x) (kids_at mem y) false → Out G L N (i ∷ ps) (j ∷ qs) false
+    down_no N ps qs O = out_down_no G W L i j x y (sym H.ex) (sym H.ey) rx ry sx sy N ps qs O
 
-    pub wrap_down : cell_at mem x ≡ cell_at mem y → (K : Links) → Out G (length mem) 512 (L ++ ((x, y) ∷ [])) K (kids_at mem x) (kids_at mem y) true → Wrap G (length mem) L K i j
-    wrap_down c K O N ps qs b P = out_down G W (length mem) 512 L i j x y (sym H.ex) (sym H.ey) rx ry sx sy K N ps qs b c O P
+    pub wrap_down : cell_at mem x ≡ cell_at mem y → (K : Links) → Out G (L ++ ((x, y) ∷ [])) K (kids_at mem x) (kids_at mem y) true → Wrap G L K i j
+    wrap_down c K O N ps qs b P = out_down G W L i j x y (sym H.ex) (sym H.ey) rx ry sx sy K N ps qs b c O P
 
   pub kids_out : (m : ℕ) → m ≡ need (cell_at mem x) → m ≡ need (cell_at mem y) → (N K : Links) (r : Bool) → N ≡ L ++ ((x, y) ∷ [])
-      → Out G (length mem) 512 N K (places_from mem (x + 1) m) (places_from mem (y + 1) m) r → Out G (length mem) 512 (L ++ ((x, y) ∷ [])) K (kids_at mem x) (kids_at mem y) r
+      → Out G N K (places_from mem (x + 1) m) (places_from mem (y + 1) m) r → Out G (L ++ ((x, y) ∷ [])) K (kids_at mem x) (kids_at mem y) r
   kids_out m mx my N K r e O =
-      subst (λ X. Out G (length mem) 512 X K (kids_at mem x) (kids_at mem y) r) e
-      (subst (λ k. Out G (length mem) 512 N K (kids_at mem x) (places_from mem (y + 1) k) r) my
-      (subst (λ k. Out G (length mem) 512 N K (places_from mem (x + 1) k) (places_from mem (y + 1) m) r) mx O))
+      subst (λ X. Out G X K (kids_at mem x) (kids_at mem y) r) e
+      (subst (λ k. Out G N K (kids_at mem x) (places_from mem (y + 1) k) r) my
+      (subst (λ k. Out G N K (places_from mem (x + 1) k) (places_from mem (y + 1) m) r) mx O))
 
 -- the equations behind, in the memory as it was
 pub along : (k l : Kinds) (a b : Bor (List ℕ)) → k ≡ l → a ≡ b → (L M : Links) (i j n : ℕ) (r : Bool)
-    → Out (over k a.now) (length a.now) 512 L M (places_from a.now i n) (places_from a.now j n) r → Out (over l b.now) (length b.now) 512 L M (places_from b.now i n) (places_from b.now j n) r
+    → Out (over k a.now) L M (places_from a.now i n) (places_from a.now j n) r → Out (over l b.now) L M (places_from b.now i n) (places_from b.now j n) r
 along k l a b e f L M i j n r O =
-    subst (λ b. Out (over l b.now) (length b.now) 512 L M (places_from b.now i n) (places_from b.now j n) r) f
-    (subst (λ k. Out (over k a.now) (length a.now) 512 L M (places_from a.now i n) (places_from a.now j n) r) e O)
+    subst (λ b. Out (over l b.now) L M (places_from b.now i n) (places_from b.now j n) r) f
+    (subst (λ k. Out (over k a.now) L M (places_from a.now i n) (places_from a.now j n) r) e O)
 
 pub same_graph : (k l : Kinds) (a b : Bor (List ℕ)) → k ≡ l → a ≡ b → over k a.now ≡ over l b.now
 same_graph k l a b e f = ap (λ k. over k a.now) e ∙ ap (λ b. over l b.now) f

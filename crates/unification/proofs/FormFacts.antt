@@ -9,7 +9,7 @@ use Rattle.unification.specs.Number.{number, after, Over, Written, Wrote, Common
 use Rattle.unification.proofs.SolFacts.{sols_unique, sol_node, sol_whole, sol_solves, sol_general}
 use Rattle.unification.proofs.SolveFacts.{row_of, row_of_sol}
 
-module _ (G : Graph) (W : Laws G) (n cap : ℕ) (p q : ℕ) (L : Links) where
+module _ (G : Graph) (W : Laws G) (p q : ℕ) (L : Links) where
   made_append : (a b : List ℕ) → Made G a → Made G b → Made G (a ++ b)
   made_append [] b h k = k
   made_append (x ∷ a) b h k = (h.0, made_append a b h.1 k)
@@ -19,7 +19,7 @@ module _ (G : Graph) (W : Laws G) (n cap : ℕ) (p q : ℕ) (L : Links) where
   sols_made (more {p = i} {a = a} {b = b} s t) = ((norm G L i, refl), made_append a b (sols_made s) (sols_made t))
 
   -- closed links that give each variable a row give a most general replacement
-  pub found : Out G n cap [] L (p ∷ []) (q ∷ []) true → Solved G L → (g : General G p q) × Sol G L p (val G g.σ p) × Made G (val G g.σ p)
+  pub found : Out G [] L (p ∷ []) (q ∷ []) true → Solved G L → (g : General G p q) × Sol G L p (val G g.σ p) × Made G (val G g.σ p)
   found O S = (g, here, sols_made here)
     where
       closed : Closed G L L
@@ -39,7 +39,7 @@ module _ (G : Graph) (W : Laws G) (n cap : ℕ) (p q : ℕ) (L : Links) where
       here : Sol G L p (val G σ p)
       here = sol_node G L W closed σ (row_of_sol G W L S) (length (G.term p)) p (le_refl _)
 
-  pub form_some : Out G n cap [] L (p ∷ []) (q ∷ []) true → Solved G L → (old new : Form) → old.cells.items ≡ [] → old.names.items ≡ [] → Written G L (p ∷ []) old new → Common G p q (Ok (Some new))
+  pub form_some : Out G [] L (p ∷ []) (q ∷ []) true → Solved G L → (old new : Form) → old.cells.items ≡ [] → old.names.items ≡ [] → Written G L (p ∷ []) old new → Common G p q (Ok (Some new))
   form_some O S old new c m R =
       let (g, here, made) = found O S in
       let e : R.row ≡ val G g.σ p = sols_unique G L R.sols here in
@@ -52,7 +52,7 @@ module _ (G : Graph) (W : Laws G) (n cap : ℕ) (p q : ℕ) (L : Links) where
         few = subst (λ x. length x ≤ 64) names new.few;
       }
 
-  pub form_over : Out G n cap [] L (p ∷ []) (q ∷ []) true → Solved G L → (old new : Form) → old.cells.items ≡ [] → old.names.items ≡ [] → Wrote G L (p ∷ []) old new None → Common G p q (Err TooLarge)
+  pub form_over : Out G [] L (p ∷ []) (q ∷ []) true → Solved G L → (old new : Form) → old.cells.items ≡ [] → old.names.items ≡ [] → Wrote G L (p ∷ []) old new None → Common G p q (Err TooLarge)
   form_over O S old new c m R =
       let (g, here, made) = found O S in
       record { g = g; made = made; over = subst₂ (λ x y. Over G.is_v x y (val G g.σ p)) c m (R (val G g.σ p) here) }

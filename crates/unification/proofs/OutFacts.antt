@@ -1,7 +1,7 @@
 -- The ways through one equation of the closing, each with the equations behind it. Assumes nothing.
 use Rattle.std.proofs.Common.{◌≡◌, ℕ, Bool, true, false, ◌≢◌, ◌⊎◌, List, [], ◌∷◌, ◌++◌, sym, refl, ap, ◌∙◌, subst, inl, inr, true≢false, append_assoc, append-nil}
 use Rattle.unification.specs.Graph.{Graph, Laws, Links, follow, find, Pairs, canon, norm, Joined, val, SameVal, Sat, ClosedAt, Closed}
-use Rattle.unification.specs.Close.{Fit, WholeFor, Out}
+use Rattle.unification.specs.Close.{WholeFor, Out}
 use Rattle.unification.proofs.LinkFacts.{find_append, follow_cases, joined_append, closed_append, closed_join, sat_append, norm_val, pairs_map}
 use Rattle.unification.proofs.StepFacts.{split_cell, split_kids}
 use Rattle.unification.proofs.FitFacts.{follow_same}
@@ -9,10 +9,9 @@ use Rattle.unification.proofs.FitFacts.{follow_same}
 pub true_not : {b : Bool} {X : Type 0} → b ≡ true → b ≡ false → X
 true_not e f = absurd (true≢false (sym e ∙ f))
 
-module _ (G : Graph) (W : Laws G) (n cap : ℕ) where
-  pub out_none : (L : Links) → Fit G n cap L → Out G n cap L L [] [] true
-  out_none L F = record {
-    fit = F;
+module _ (G : Graph) (W : Laws G) where
+  pub out_none : (L : Links) → Out G L L [] [] true
+  out_none L = record {
     new = [];
     grown = sym (append-nil L);
     closed = λ e. tt;
@@ -22,9 +21,8 @@ module _ (G : Graph) (W : Laws G) (n cap : ℕ) where
   }
 
   -- the two places are joined already
-  pub out_same : (L M : Links) (i j : ℕ) (ps qs : List ℕ) (r : Bool) → Joined G L i j → Out G n cap L M ps qs r → Out G n cap L M (i ∷ ps) (j ∷ qs) r
+  pub out_same : (L M : Links) (i j : ℕ) (ps qs : List ℕ) (r : Bool) → Joined G L i j → Out G L M ps qs r → Out G L M (i ∷ ps) (j ∷ qs) r
   out_same L M i j ps qs r e O = record {
-    fit = O.fit;
     new = O.new;
     grown = O.grown;
     closed = O.closed;
@@ -58,9 +56,8 @@ module _ (G : Graph) (W : Laws G) (n cap : ℕ) where
     regroup N = append_assoc L ((x, y) ∷ []) N
 
     -- a link that the rest keeps, and whose arguments need nothing, or are joined in the end
-    pub out_link : (M : Links) (ps qs : List ℕ) (r : Bool) → (r ≡ true → ClosedAt G M x y) → Out G n cap K M ps qs r → Out G n cap L M (i ∷ ps) (j ∷ qs) r
+    pub out_link : (M : Links) (ps qs : List ℕ) (r : Bool) → (r ≡ true → ClosedAt G M x y) → Out G K M ps qs r → Out G L M (i ∷ ps) (j ∷ qs) r
     out_link M ps qs r c O = record {
-      fit = O.fit;
       new = (x, y) ∷ O.new;
       grown = O.grown ∙ regroup O.new;
       closed = λ t. (c t, O.closed t);
@@ -70,7 +67,7 @@ module _ (G : Graph) (W : Laws G) (n cap : ℕ) where
     }
 
     -- a variable
-    pub out_bind : (M : Links) (ps qs : List ℕ) (r : Bool) → G.is_v (G.cell x) ≡ true → Out G n cap K M ps qs r → Out G n cap L M (i ∷ ps) (j ∷ qs) r
+    pub out_bind : (M : Links) (ps qs : List ℕ) (r : Bool) → G.is_v (G.cell x) ≡ true → Out G K M ps qs r → Out G L M (i ∷ ps) (j ∷ qs) r
     out_bind M ps qs r v O = out_link M ps qs r (λ t s. true_not v s) O
 
     module _ (sx : G.is_v (G.cell x) ≡ false) (sy : G.is_v (G.cell y) ≡ false) where
@@ -78,9 +75,8 @@ module _ (G : Graph) (W : Laws G) (n cap : ℕ) where
       same_xy σ h e = ap (val G σ) (sym ix) ∙ sym (norm_val G W σ L i h) ∙ e ∙ norm_val G W σ L j h ∙ ap (val G σ) jy
 
       -- two symbols that differ
-      pub out_clash : Fit G n cap L → (ps qs : List ℕ) → G.cell x ≢ G.cell y → Out G n cap L L (i ∷ ps) (j ∷ qs) false
-      out_clash F ps qs ne = record {
-        fit = F;
+      pub out_clash : (ps qs : List ℕ) → G.cell x ≢ G.cell y → Out G L L (i ∷ ps) (j ∷ qs) false
+      out_clash ps qs ne = record {
         new = [];
         grown = sym (append-nil L);
         closed = λ e. true_not e refl;
@@ -90,9 +86,8 @@ module _ (G : Graph) (W : Laws G) (n cap : ℕ) where
       }
 
       -- one symbol, whose arguments do not become one
-      pub out_down_no : (M : Links) (ps qs : List ℕ) → Out G n cap K M (G.kids x) (G.kids y) false → Out G n cap L M (i ∷ ps) (j ∷ qs) false
+      pub out_down_no : (M : Links) (ps qs : List ℕ) → Out G K M (G.kids x) (G.kids y) false → Out G L M (i ∷ ps) (j ∷ qs) false
       out_down_no M ps qs O = record {
-        fit = O.fit;
         new = (x, y) ∷ O.new;
         grown = O.grown ∙ regroup O.new;
         closed = λ e. true_not e refl;
@@ -102,10 +97,9 @@ module _ (G : Graph) (W : Laws G) (n cap : ℕ) where
       }
 
       -- one symbol, whose arguments become one
-      pub out_down : (M N : Links) (ps qs : List ℕ) (r : Bool) → G.cell x ≡ G.cell y → Out G n cap K M (G.kids x) (G.kids y) true → Out G n cap M N ps qs r →
-          Out G n cap L N (i ∷ ps) (j ∷ qs) r
+      pub out_down : (M N : Links) (ps qs : List ℕ) (r : Bool) → G.cell x ≡ G.cell y → Out G K M (G.kids x) (G.kids y) true → Out G M N ps qs r →
+          Out G L N (i ∷ ps) (j ∷ qs) r
       out_down M N ps qs r c O P = record {
-        fit = P.fit;
         new = (x, y) ∷ (O.new ++ P.new);
         grown = all;
         closed = λ t. (
@@ -130,9 +124,8 @@ module _ (G : Graph) (W : Laws G) (n cap : ℕ) where
   pairs_sym f (p ∷ ps) [] h = h
   pairs_sym f (p ∷ ps) (q ∷ qs) h = (f p q h.0, pairs_sym f ps qs h.1)
 
-  pub out_sym : (L M : Links) (ps qs : List ℕ) (r : Bool) → Out G n cap L M ps qs r → Out G n cap L M qs ps r
+  pub out_sym : (L M : Links) (ps qs : List ℕ) (r : Bool) → Out G L M ps qs r → Out G L M qs ps r
   out_sym L M ps qs r O = record {
-    fit = O.fit;
     new = O.new;
     grown = O.grown;
     closed = O.closed;

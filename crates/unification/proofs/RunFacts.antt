@@ -16,19 +16,22 @@ Below n [] = Unit {0}
 Below n (p ∷ ps) = (p < n) × Below n ps
 
 module _ (G : Graph) (W : Laws G) (n cap : ℕ) (inner : (x : ℕ) → x < n → Below n (G.kids x)) where
+  abbrev Ran : Links → List ℕ → List ℕ → Type 0
+  Ran L ps qs = (M : Links) × (r : Bool) × Fit G n cap M × Out G L M ps qs r
+
   abbrev Run : ℕ → Type 0
   Run fuel = (ps qs : List ℕ) (L : Links) → Fit G n cap L → cap ≤ length L + fuel → Below n ps → Below n qs → length ps ≡ length qs
-      → (M : Links) × (r : Bool) × Out G n cap L M ps qs r
+      → Ran L ps qs
 
   norm_root : (L : Links) → Fit G n cap L → (i : ℕ) → find L (norm G L i) ≡ norm G L i
   norm_root L F i = F.again (canon G i)
 
-  longer : (L M : Links) (ps qs : List ℕ) (r : Bool) → Out G n cap L M ps qs r → length L ≤ length M
+  longer : (L M : Links) (ps qs : List ℕ) (r : Bool) → Out G L M ps qs r → length L ≤ length M
   longer L M ps qs r O = omega (arith, ap length O.grown ∙ length-append L O.new)
 
   -- one equation between places that are not joined, with room for one link more
   part : (fuel : ℕ) → Run fuel → (i j : ℕ) (ps qs : List ℕ) (L : Links) → Fit G n cap L → cap ≤ length L + suc fuel → i < n → j < n → Below n ps → Below n qs → length ps ≡ length qs
-      → norm G L i ≢ norm G L j → (M : Links) × (r : Bool) × Out G n cap L M (i ∷ ps) (j ∷ qs) r
+      → norm G L i ≢ norm G L j → Ran L (i ∷ ps) (j ∷ qs)
   part fuel rec i j ps qs L F c hi hj bp bq l ne = by (G.is_v (G.cell x)) refl (G.is_v (G.cell y)) refl
     where
       x : ℕ
@@ -59,52 +62,53 @@ module _ (G : Graph) (W : Laws G) (n cap : ℕ) (inner : (x : ℕ) → x < n →
       fyx = fit_more G n cap L F y x (λ e. ne (sym e)) ry rx py px
 
       down : (sx : G.is_v (G.cell x) ≡ false) (sy : G.is_v (G.cell y) ≡ false) → G.cell x ≡ G.cell y
-          → (M : Links) (r : Bool) → Out G n cap (L ++ ((x, y) ∷ [])) M (G.kids x) (G.kids y) r → (M : Links) × (r : Bool) × Out G n cap L M (i ∷ ps) (j ∷ qs) r
-      down sx sy e M false O = (M, false, out_down_no G W n cap L i j x y refl refl rx ry sx sy M ps qs O)
-      down sx sy e M true O =
+          → (M : Links) (r : Bool) → Fit G n cap M → Out G (L ++ ((x, y) ∷ [])) M (G.kids x) (G.kids y) r → Ran L (i ∷ ps) (j ∷ qs)
+      down sx sy e M false E O = (M, false, E, out_down_no G W L i j x y refl refl rx ry sx sy M ps qs O)
+      down sx sy e M true E O =
           let m : cap ≤ length M + fuel = omega (arith, longer (L ++ ((x, y) ∷ [])) M (G.kids x) (G.kids y) true O, grown x y) in
-          let (N, r, P) = rec ps qs M O.fit m bp bq l in
-          (N, r, out_down G W n cap L i j x y refl refl rx ry sx sy M N ps qs r e O P)
+          let (N, r, E', P) = rec ps qs M E m bp bq l in
+          (N, r, E', out_down G W L i j x y refl refl rx ry sx sy M N ps qs r e O P)
 
       same : (sx : G.is_v (G.cell x) ≡ false) (sy : G.is_v (G.cell y) ≡ false) → (b : Bool) → eqb (G.cell x) (G.cell y) ≡ b
-          → (M : Links) × (r : Bool) × Out G n cap L M (i ∷ ps) (j ∷ qs) r
-      same sx sy false t = (L, false, out_clash G W n cap L i j x y refl refl rx ry sx sy F ps qs (eqb-false (G.cell x) (G.cell y) t))
+          → Ran L (i ∷ ps) (j ∷ qs)
+      same sx sy false t = (L, false, F, out_clash G W L i j x y refl refl rx ry sx sy ps qs (eqb-false (G.cell x) (G.cell y) t))
       same sx sy true t =
           let e = eqb-true (G.cell x) (G.cell y) t in
           let k : length (G.kids x) ≡ length (G.kids y) = W.many x ∙ ap G.need e ∙ sym (W.many y) in
-          let (M, r, O) = rec (G.kids x) (G.kids y) (L ++ ((x, y) ∷ [])) fxy (grown x y) (inner x (place_node G W n x px sx)) (inner y (place_node G W n y py sy)) k in
-          down sx sy e M r O
+          let (M, r, E, O) = rec (G.kids x) (G.kids y) (L ++ ((x, y) ∷ [])) fxy (grown x y) (inner x (place_node G W n x px sx)) (inner y (place_node G W n y py sy)) k in
+          down sx sy e M r E O
 
-      by : (b : Bool) → G.is_v (G.cell x) ≡ b → (d : Bool) → G.is_v (G.cell y) ≡ d → (M : Links) × (r : Bool) × Out G n cap L M (i ∷ ps) (j ∷ qs) r
+      by : (b : Bool) → G.is_v (G.cell x) ≡ b → (d : Bool) → G.is_v (G.cell y) ≡ d → Ran L (i ∷ ps) (j ∷ qs)
       by true vx d vy =
-          let (M, r, O) = rec ps qs (L ++ ((x, y) ∷ [])) fxy (grown x y) bp bq l in
-          (M, r, out_bind G W n cap L i j x y refl refl rx ry M ps qs r vx O)
+          let (M, r, E, O) = rec ps qs (L ++ ((x, y) ∷ [])) fxy (grown x y) bp bq l in
+          (M, r, E, out_bind G W L i j x y refl refl rx ry M ps qs r vx O)
       by false vx true vy =
-          let (M, r, O) = rec ps qs (L ++ ((y, x) ∷ [])) fyx (grown y x) bp bq l in (
+          let (M, r, E, O) = rec ps qs (L ++ ((y, x) ∷ [])) fyx (grown y x) bp bq l in (
             M,
             r,
-            out_sym G W n cap L M (j ∷ qs) (i ∷ ps) r
-                (out_bind G W n cap L j i y x refl refl ry rx M qs ps r vy (out_sym G W n cap (L ++ ((y, x) ∷ [])) M ps qs r O)),
+            E,
+            out_sym G W L M (j ∷ qs) (i ∷ ps) r
+                (out_bind G W L j i y x refl refl ry rx M qs ps r vy (out_sym G W (L ++ ((y, x) ∷ [])) M ps qs r O)),
           )
       by false vx false vy = same vx vy (eqb (G.cell x) (G.cell y)) refl
 
   step : (fuel : ℕ) → ((m : ℕ) → fuel ≡ suc m → Run m) → Run fuel
-  step fuel rec [] [] L F c bp bq l = (L, true, out_none G W n cap L F)
+  step fuel rec [] [] L F c bp bq l = (L, true, F, out_none G W L)
   step fuel rec [] (j ∷ qs) L F c bp bq l = absurd (omega arith)
   step fuel rec (i ∷ ps) [] L F c bp bq l = absurd (omega arith)
   step fuel rec (i ∷ ps) (j ∷ qs) L F c bp bq l =
       by (λ L F c. step fuel rec ps qs L F c bp.1 bq.1 (omega arith)) (eqb (norm G L i) (norm G L j)) refl
     where
-      apart : norm G L i ≢ norm G L j → (k : ℕ) → fuel ≡ k → (M : Links) × (r : Bool) × Out G n cap L M (i ∷ ps) (j ∷ qs) r
+      apart : norm G L i ≢ norm G L j → (k : ℕ) → fuel ≡ k → Ran L (i ∷ ps) (j ∷ qs)
       apart ne zero e =
           absurd (omega (arith, room_more G n cap L F (norm G L i) (norm G L j) ne (norm_root L F i) (norm_root L F j) (norm_place G n L F.ends i bp.0) (norm_place G n L F.ends j bq.0)))
       apart ne (suc k) e =
           let c' : cap ≤ length L + suc k = omega arith in
           part k (rec k e) i j ps qs L F c' bp.0 bq.0 bp.1 bq.1 (omega arith) ne
 
-      by : ((L : Links) → Fit G n cap L → cap ≤ length L + fuel → (M : Links) × (r : Bool) × Out G n cap L M ps qs r)
-          → (b : Bool) → eqb (norm G L i) (norm G L j) ≡ b → (M : Links) × (r : Bool) × Out G n cap L M (i ∷ ps) (j ∷ qs) r
-      by again true t = let (M, r, O) = again L F c in (M, r, out_same G W n cap L M i j ps qs r (eqb-true (norm G L i) (norm G L j) t) O)
+      by : ((L : Links) → Fit G n cap L → cap ≤ length L + fuel → Ran L ps qs)
+          → (b : Bool) → eqb (norm G L i) (norm G L j) ≡ b → Ran L (i ∷ ps) (j ∷ qs)
+      by again true t = let (M, r, E, O) = again L F c in (M, r, E, out_same G W L M i j ps qs r (eqb-true (norm G L i) (norm G L j) t) O)
       by again false t = apart (eqb-false (norm G L i) (norm G L j) t) fuel refl
 
   pub run : (fuel : ℕ) → Run fuel
@@ -146,8 +150,8 @@ pub general_exists : (G : Graph) → Laws G → (n : ℕ) → ((x : ℕ) → x <
     → (g : General G p q) × Made G (val G g.σ p)
 general_exists G W n inner p q hp hq τ w e = by (run G W n n inner n (p ∷ []) (q ∷ []) [] (fit_none G n n (le_refl n)) (omega arith) (hp, tt) (hq, tt) refl)
   where
-    by : (M : Links) × (r : Bool) × Out G n n [] M (p ∷ []) (q ∷ []) r → (g : General G p q) × Made G (val G g.σ p)
-    by (M, false, O) = absurd (O.refutes refl τ w tt (e, tt))
-    by (M, true, O) =
-        let (g, here, made) = found G W n n p q M O (solved_by G W M τ (O.keeps refl τ w tt (e, tt))) in
+    by : (M : Links) × (r : Bool) × Fit G n n M × Out G [] M (p ∷ []) (q ∷ []) r → (g : General G p q) × Made G (val G g.σ p)
+    by (M, false, E, O) = absurd (O.refutes refl τ w tt (e, tt))
+    by (M, true, E, O) =
+        let (g, here, made) = found G W p q M O (solved_by G W M τ (O.keeps refl τ w tt (e, tt))) in
         (g, made)

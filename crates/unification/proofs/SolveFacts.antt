@@ -69,11 +69,11 @@ module _ (G : Graph) (W : Laws G) (L : Links) where
         go false f g = true_not g refl
 
 -- the whole decision: closed from nothing, and with a row for each variable, or with none
-module _ (G : Graph) (W : Laws G) (n cap : ℕ) (p q : ℕ) (L : Links) where
-  pub decide_never : Out G n cap [] L (p ∷ []) (q ∷ []) true → ((σ : ℕ → List ℕ) → Sat G σ L → ⊥) → Decides G p q false
+module _ (G : Graph) (W : Laws G) (p q : ℕ) (L : Links) where
+  pub decide_never : Out G [] L (p ∷ []) (q ∷ []) true → ((σ : ℕ → List ℕ) → Sat G σ L → ⊥) → Decides G p q false
   decide_never O f = record { yes = λ e. true_not e refl; no = λ e σ w h. f σ (O.keeps refl σ w tt (h, tt)) }
 
-  pub decide_yes : Out G n cap [] L (p ∷ []) (q ∷ []) true → Solved G L → Decides G p q true
+  pub decide_yes : Out G [] L (p ∷ []) (q ∷ []) true → Solved G L → Decides G p q true
   decide_yes O S = record {
     yes = λ e. record {
       σ = row_of G W L S;
@@ -87,6 +87,6 @@ module _ (G : Graph) (W : Laws G) (n cap : ℕ) (p q : ℕ) (L : Links) where
       closed : Closed G L L
       closed = subst (Closed G L) (sym O.grown) (O.closed refl)
 
-  pub decide : Out G n cap [] L (p ∷ []) (q ∷ []) true → (r : Bool) → (r ≡ true → Solved G L) → (r ≡ false → (σ : ℕ → List ℕ) → Sat G σ L → ⊥) → Decides G p q r
+  pub decide : Out G [] L (p ∷ []) (q ∷ []) true → (r : Bool) → (r ≡ true → Solved G L) → (r ≡ false → (σ : ℕ → List ℕ) → Sat G σ L → ⊥) → Decides G p q r
   decide O true y f = decide_yes O (y refl)
   decide O false y f = decide_never O (f refl)

@@ -31,8 +31,7 @@ abbrev pub WholeFor : Graph → (ℕ → List ℕ) → Type 0
 WholeFor G σ = WholeAt G.is_v G.need σ
 
 -- the links L became M, and the answer is r, for the equations between the places ps and qs
-pub record Out (G : Graph) (n cap : ℕ) (L M : Links) (ps qs : List ℕ) (r : Bool) : Type 0 where
-  pub fit : Fit G n cap M
+pub record Out (G : Graph) (L M : Links) (ps qs : List ℕ) (r : Bool) : Type 0 where
   pub new : Links
   pub grown : M ≡ L ++ new
   pub closed : r ≡ true → Closed G M new

@@ -2,7 +2,7 @@
 ghost use Rattle.std.specs.Prelude.{◌≡◌, length, drop};
 ghost use Rattle.unification.specs.Memory.{Has};
 ghost use Rattle.unification.specs.Close.{Out};
-ghost use Rattle.unification.specs.Unifiers.{graph_of, size_of, links_of, rows_of};
+ghost use Rattle.unification.specs.Unifiers.{graph_of, links_of, rows_of};
 
 use super::Unifier;
 use cells::arity_of;
@@ -14,8 +14,7 @@ impl Unifier<'_> {
         requires right { Has n (drop j self.old.cells.now) }
         ensures cells { self.new.cells ≡ self.old.cells }
         ensures kinds { self.new.kinds ≡ self.old.kinds }
-        ensures out { Out (graph_of self.old) (size_of self.old) 512
-            (links_of self.old) (links_of self.new)
+        ensures out { Out (graph_of self.old) (links_of self.old) (links_of self.new)
             (rows_of self.old i n) (rows_of self.old j n) result }
     {
         if n == 0 {

@@ -17,8 +17,7 @@ impl Unifier<'_> {
         ensures cells { self.new.cells ≡ self.old.cells }
         ensures kinds { self.new.kinds ≡ self.old.kinds }
         ensures decides { Decides (graph_of self.old) p q result }
-        ensures out { result ≡ true → Out (graph_of self.old) (size_of self.old) 512
-            [] (links_of self.new) (p ∷ []) (q ∷ []) true }
+        ensures out { result ≡ true → Out (graph_of self.old) [] (links_of self.new) (p ∷ []) (q ∷ []) true }
         ensures solved { result ≡ true → Solved (graph_of self.old) (links_of self.new) }
     {
         self.unify_rows(p, q, 1) && self.is_solvable()

@@ -21,8 +21,8 @@ returns-then-n-eq0-clause-out t c =
     let mem = u.cells.now in
     let G = graph_of u in
     let L = u.links.items in
-    subst (λ n. Out G (length mem) 512 L L (places_from mem c.args.i n) (places_from mem c.args.j n) true) (sym c.if-n-eq0.true)
-    (out_none G (law_of u) (length mem) 512 L u.fit)
+    subst (λ n. Out G L L (places_from mem c.args.i n) (places_from mem c.args.j n) true) (sym c.if-n-eq0.true)
+    (out_none G (law_of u) L)
 
 pub push-requires : goal.push-requires
 push-requires t c = (lit< tt, head_room c.args.self.now c.args.i c.args.j c.head-x.result.0 c.head-y.result.0 (heads t (goal.at.push-requires t c).After-head-y) c.if-x-y.true)
@@ -55,7 +55,7 @@ returns-then-c-d-clause-out t c =
     let at = (goal.at.returns-then-c-d-clause-out t c).After-head-y in
     let sx = ap (binds u.kinds) (sym c.head-x.ensures.cell) ∙ sym c.if-binds.ensures in
     let sy = ap (binds u.kinds) (sym c.head-y.ensures.cell) ∙ sym c.if-binds-2.ensures in
-    subst₂ (λ P Q. Out (graph_of u) (length mem) 512 u.links.items u.links.items P Q false) (sym (places_first mem c.args.n c.args.i c.if-n-eq0.false c.requires.left)) (sym (places_first mem c.args.n c.args.j c.if-n-eq0.false c.requires.right))
+    subst₂ (λ P Q. Out (graph_of u) u.links.items u.links.items P Q false) (sym (places_first mem c.args.n c.args.i c.if-n-eq0.false c.requires.left)) (sym (places_first mem c.args.n c.args.j c.if-n-eq0.false c.requires.right))
     (clash c.args.self.now c.args.i c.args.j c.head-x.result.0 c.head-y.result.0 (heads t at) sx sy _ _ (λ e. c.if-c-d.true (c.head-x.ensures.cell ∙ e ∙ sym c.head-y.ensures.cell)))
 
 pub unify_rows-requires : goal.unify_rows-requires
@@ -85,7 +85,7 @@ returns-then-not-unify_rows-clause-out t c =
     let mx = many ∙ ap need c.head-x.ensures.cell in
     let my = many ∙ ap need (c.if-c-d.false ∙ c.head-y.ensures.cell) in
     let K = c.unify_rows.new.self.links.items in
-    subst₂ (λ P Q. Out (graph_of u) (length mem) 512 u.links.items K P Q false) (sym (places_first mem c.args.n c.args.i c.if-n-eq0.false c.requires.left)) (sym (places_first mem c.args.n c.args.j c.if-n-eq0.false c.requires.right))
+    subst₂ (λ P Q. Out (graph_of u) u.links.items K P Q false) (sym (places_first mem c.args.n c.args.i c.if-n-eq0.false c.requires.left)) (sym (places_first mem c.args.n c.args.j c.if-n-eq0.false c.requires.right))
     (down_no c.args.self.now c.args.i c.args.j c.head-x.result.0 c.head-y.result.0 (heads t at) sx sy K _ _ (kids_out c.args.self.now c.args.i c.args.j c.head-x.result.0 c.head-y.result.0 (heads t at) c.arity_of.result mx my c.push-else-c-d.new.self.items K false c.push-else-c-d.ensures.items c.if-not-unify_rows.ensures.out))
 
 -- whichever way the first equation went
@@ -100,7 +100,7 @@ headed t c h =
             cells = refl;
             kinds = refl;
             longer = omega (arith, w.push.ensures.len);
-            wrap = subst (λ K. Wrap G (length mem) u.links.items K c.args.i c.args.j) (sym w.push.ensures.items)
+            wrap = subst (λ K. Wrap G u.links.items K c.args.i c.args.j) (sym w.push.ensures.items)
                 (wrap_bind c.args.self.now c.args.i c.args.j c.head-x.result.0 c.head-y.result.0 h (ap (binds u.kinds) (sym c.head-x.ensures.cell) ∙ sym w.if-binds.ensures));
           })
       | then-x-y+else-binds+then-binds-2 w ↦
@@ -108,7 +108,7 @@ headed t c h =
             cells = refl;
             kinds = refl;
             longer = omega (arith, w.push-then-binds-2.ensures.len);
-            wrap = subst (λ K. Wrap G (length mem) u.links.items K c.args.i c.args.j) (sym w.push-then-binds-2.ensures.items)
+            wrap = subst (λ K. Wrap G u.links.items K c.args.i c.args.j) (sym w.push-then-binds-2.ensures.items)
                 (wrap_back c.args.self.now c.args.i c.args.j c.head-x.result.0 c.head-y.result.0 h (ap (binds u.kinds) (sym c.head-y.ensures.cell) ∙ sym w.if-binds-2.ensures));
           })
       | then-x-y+else-binds+else-binds-2+else-c-d+else-not-unify_rows w ↦
@@ -165,7 +165,7 @@ returns-clause-out t c =
     let D = headed t here.After-end-l (heads t here.After-head-y) in
     let (k, l) = behind t here.After-end-l D in
     let N = c.unify_rows-2.new.self.links.items in
-    subst₂ (λ P Q. Out (graph_of u) (length mem) 512 u.links.items N P Q c.unify_rows-2.result)
+    subst₂ (λ P Q. Out (graph_of u) u.links.items N P Q c.unify_rows-2.result)
     (sym (places_cons mem c.args.n c.args.i c.if-n-eq0.false c.requires.left c.end-k.result k))
     (sym (places_cons mem c.args.n c.args.j c.if-n-eq0.false c.requires.right c.end-l.result l))
     (D.wrap N _ _ c.unify_rows-2.result

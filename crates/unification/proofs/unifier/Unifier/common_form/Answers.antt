@@ -25,7 +25,7 @@ returns-in_err-ok_or c =
     let none : c.write_rows.result ≡ None = grind (arith, common_steps) in
     let large : c.from_residual.result ≡ Err TooLarge = grind (arith, common_steps) in
     subst (Common G c.args.p c.args.q) (sym large)
-    (form_over G (law_of u) (length u.cells.now) 512 c.args.p c.args.q L (c.if-not-unify.ensures.out refl) (c.if-not-unify.ensures.solved refl)
+    (form_over G (law_of u) c.args.p c.args.q L (c.if-not-unify.ensures.out refl) (c.if-not-unify.ensures.solved refl)
     c.new-form.result c.write_rows.new.form c.new-form.ensures.cells c.new-form.ensures.names
     (subst (Wrote G L (c.args.p ∷ []) c.new-form.result c.write_rows.new.form) none (wrote (goal.at.returns-in_err-ok_or c).After-write_rows)))
 
@@ -35,6 +35,6 @@ returns c =
     let G = graph_of u in
     let L = c.unify.new.self.links.items in
     let some : c.write_rows.result ≡ Some tt = grind (arith, common_steps) in
-    form_some G (law_of u) (length u.cells.now) 512 c.args.p c.args.q L (c.if-not-unify.ensures.out refl) (c.if-not-unify.ensures.solved refl)
+    form_some G (law_of u) c.args.p c.args.q L (c.if-not-unify.ensures.out refl) (c.if-not-unify.ensures.solved refl)
     c.new-form.result c.write_rows.new.form c.new-form.ensures.cells c.new-form.ensures.names
     (subst (Wrote G L (c.args.p ∷ []) c.new-form.result c.write_rows.new.form) some (wrote (goal.at.returns c).After-write_rows))
