@@ -3,8 +3,8 @@ use Rattle.std.proofs.Common.{◌≡◌, ℕ, zero, suc, ◌<◌, ◌≤◌, Boo
 use Rattle.std.proofs.lemmas.Bool.{cases_eq}
 use Rattle.unification.specs.Graph.{Graph, Laws, Links, norm, val, Sols}
 use Rattle.unification.specs.Graph.Sols.{none, more}
-use Rattle.unification.specs.declared.mark.Mark.{Mark}
-use Rattle.unification.specs.declared.mark.Mark.TheVariants.{New, Open, Done}
+use Rattle.unification.specs.declared.unifier.walking.Mark.{Mark}
+use Rattle.unification.specs.declared.unifier.walking.Mark.TheVariants.{New, Open, Done}
 use Rattle.unification.specs.Finite.{newness, fresh, mark_at, Above, Ended, Fin}
 use Rattle.unification.proofs.LinkFacts.{norm_val, kids_none}
 use Rattle.unification.proofs.StepFacts.{val_sym, in_flat}

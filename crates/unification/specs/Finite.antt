@@ -1,7 +1,7 @@
 -- What a walk down the links answers: a row for each place, or that no replacement satisfies the links. Assumes nothing.
 use Rattle.std.specs.Prelude.{◌≡◌, ℕ, ◌+◌, ◌<◌, ◌≤◌, Bool, true, false, List, [], ◌∷◌, length, slice_index_or}
-use Rattle.unification.specs.declared.mark.Mark.{Mark}
-use Rattle.unification.specs.declared.mark.Mark.TheVariants.{New, Open, Done}
+use Rattle.unification.specs.declared.unifier.walking.Mark.{Mark}
+use Rattle.unification.specs.declared.unifier.walking.Mark.TheVariants.{New, Open, Done}
 use Rattle.unification.specs.Graph.{Graph, Links, In, val, Sat, Sols}
 
 abbrev pub newness : Mark → ℕ

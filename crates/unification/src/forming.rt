@@ -14,6 +14,7 @@ use crate::unifier::Unifier;
 use cells::{Formula, RuleSide};
 use matching::check_pair;
 
+// The common form in a value of its own, so that the buffer is written only if all of it fits.
 fn form_of(left: &RuleSide, formula: &Formula) -> Result<Option<Form>, FormFault>
     ensures { Formed (row (row_words left.now)) (row (row_words formula.now)) result }
 {

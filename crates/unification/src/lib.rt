@@ -6,7 +6,6 @@ mod fault;
 mod form;
 mod forming;
 mod kinds;
-mod mark;
 mod memory;
 mod theorems;
 mod unifier;

@@ -18,8 +18,8 @@ pub struct Unifier<'a> {
     ghost fit: { Fit (over kinds cells.now) (length cells.now) 512 links.items },
 }
 
-pub mod closing;
-pub mod places;
-pub mod solving;
-pub mod walking;
-pub mod writing;
+mod closing;
+mod places;
+mod solving;
+mod walking;
+mod writing;

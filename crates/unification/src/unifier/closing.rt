@@ -9,7 +9,7 @@ use cells::arity_of;
 
 impl Unifier<'_> {
     // Makes one the n rows that begin at i and the n rows that begin at j, if that is possible.
-    pub fn unify_rows(&mut self, i: u32, j: u32, n: usize) -> bool
+    pub(super) fn unify_rows(&mut self, i: u32, j: u32, n: usize) -> bool
         requires left { Has n (drop i self.old.cells.now) }
         requires right { Has n (drop j self.old.cells.now) }
         ensures cells { self.new.cells ≡ self.old.cells }

@@ -52,7 +52,7 @@ impl<'a> Unifier<'a> {
     }
 
     // The place that stands for a place, and its cell.
-    pub fn class_of(&self, place: u32) -> (u32, u32)
+    pub(super) fn resolve(&self, place: u32) -> (u32, u32)
         requires { Place (graph_of self.now) (size_of self.now) place }
         ensures place { result.0 ≡ find (links_of self.now) place }
         ensures cell { result.1 ≡ cell_at self.now.cells.now result.0 }
@@ -63,7 +63,7 @@ impl<'a> Unifier<'a> {
     }
 
     // The same for the row at a position.
-    pub fn head(&self, at: u32) -> (u32, u32)
+    pub(super) fn head(&self, at: u32) -> (u32, u32)
         requires { at < size_of self.now }
         ensures place { result.0 ≡ norm (graph_of self.now) (links_of self.now) at }
         ensures cell { result.1 ≡ cell_at self.now.cells.now result.0 }
@@ -71,14 +71,14 @@ impl<'a> Unifier<'a> {
     {
         let cell = self.cells[at as usize];
         if self.kinds.binds(cell) {
-            self.class_of(cell)
+            self.resolve(cell)
         } else {
-            self.class_of(at)
+            self.resolve(at)
         }
     }
 
     // The position behind the row at a position.
-    pub fn end(&self, at: u32) -> u32
+    pub(super) fn end(&self, at: u32) -> u32
         requires { at < size_of self.now }
         ensures end { result ≡ at + size 1 (drop at self.now.cells.now) }
         ensures within { result ≤ size_of self.now }

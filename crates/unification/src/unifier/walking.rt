@@ -7,8 +7,18 @@ ghost use Rattle.unification.specs.Close.{Solved};
 ghost use Rattle.unification.specs.Unifiers.{graph_of, size_of, links_of, rows_of};
 
 use super::Unifier;
-use crate::mark::Mark;
 use cells::arity_of;
+
+// What the walk knows of a place.
+#[derive(Clone, Copy)]
+enum Mark {
+    // not yet met
+    New,
+    // being walked
+    Open,
+    // has its row
+    Done,
+}
 
 impl Unifier<'_> {
     // Walks the n rows that begin at i, through the links: true if each comes to an end.
@@ -41,14 +51,14 @@ impl Unifier<'_> {
     }
 
     // Whether every bound variable has a row: no variable stands inside its own.
-    pub fn is_solvable(&self) -> bool
+    pub(super) fn is_solvable(&self) -> bool
         ensures yes { result ≡ true → Solved (graph_of self.now) (links_of self.now) }
         ensures no { result ≡ false → (σ : ℕ → List ℕ) → Sat (graph_of self.now) σ (links_of self.now) → ⊥ }
     {
         let mut marks = [Mark::New; 512];
         for (from, _) in self.links.as_slice() {
             if self.kinds.binds(*from) {
-                let (root, cell) = self.class_of(*from);
+                let (root, cell) = self.resolve(*from);
                 if !self.kinds.binds(cell) && !self.finite_rows(&mut marks, root, 1) {
                     return false;
                 }

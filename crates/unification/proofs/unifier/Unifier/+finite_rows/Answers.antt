@@ -1,5 +1,5 @@
 use Rattle.std.proofs.Common.{◌≡◌, ℕ, ◌+◌, ◌-◌, ◌<◌, true, false, length, drop, set, sym, refl, ap, ◌∙◌, subst, arith, length-set}
-use Rattle.unification.specs.declared.mark.Mark.TheVariants.{Open}
+use Rattle.unification.specs.declared.unifier.walking.Mark.TheVariants.{Open}
 use Rattle.unification.specs.Memory.{Has, need, size, binds, cell_at, kids_at, places_from}
 use Rattle.unification.specs.Finite.{Above, Fin}
 use Rattle.unification.specs.Unifiers.{graph_of}

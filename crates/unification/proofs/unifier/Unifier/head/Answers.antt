@@ -20,20 +20,20 @@ comes c =
     let u = c.args.self.now in
     ap (λ w. cond (binds u.kinds w) w c.args.at) (here c) ∙ ap (λ b. cond b (get_or u.cells.now c.args.at 0) c.args.at) (sym c.binds.ensures)
 
-pub class_of-requires : goal.class_of-requires
-class_of-requires c =
+pub resolve-requires : goal.resolve-requires
+resolve-requires c =
     let u = c.args.self.now in
     place_from (graph_of u) (length u.cells.now) c.args.at (get_or u.cells.now c.args.at 0) c.requires
-    (comes (goal.at.class_of-requires c).After-binds ∙ ap (λ b. cond b (get_or u.cells.now c.args.at 0) c.args.at) c.if-binds.true)
+    (comes (goal.at.resolve-requires c).After-binds ∙ ap (λ b. cond b (get_or u.cells.now c.args.at 0) c.args.at) c.if-binds.true)
 
-pub class_of-requires-else-binds : goal.class_of-requires-else-binds
-class_of-requires-else-binds c =
+pub resolve-requires-else-binds : goal.resolve-requires-else-binds
+resolve-requires-else-binds c =
     let u = c.args.self.now in
     place_from (graph_of u) (length u.cells.now) c.args.at c.args.at c.requires
-    (comes (goal.at.class_of-requires-else-binds c).After-binds ∙ ap (λ b. cond b (get_or u.cells.now c.args.at 0) c.args.at) c.if-binds.false)
+    (comes (goal.at.resolve-requires-else-binds c).After-binds ∙ ap (λ b. cond b (get_or u.cells.now c.args.at 0) c.args.at) c.if-binds.false)
 
 pub returns-then-binds-clause-place : goal.returns-then-binds-clause-place
 returns-then-binds-clause-place c =
     let u = c.args.self.now in
-    c.class_of.ensures.place
+    c.resolve.ensures.place
     ∙ ap (find u.links.items) (sym (comes (goal.at.returns-then-binds-clause-place c).After-binds ∙ ap (λ b. cond b (get_or u.cells.now c.args.at 0) c.args.at) c.if-binds.true))

@@ -1,7 +1,7 @@
 use Rattle.std.proofs.Common.{◌≡◌, ℕ, true, List, length, get_or, sym, refl, ap, ◌∙◌, subst, arith, below_more}
 use Rattle.unification.specs.declared.unifier.Unifier.{Unifier}
-use Rattle.unification.specs.declared.mark.Mark.{Mark}
-use Rattle.unification.specs.declared.mark.Mark.TheVariants.{Open}
+use Rattle.unification.specs.declared.unifier.walking.Mark.{Mark}
+use Rattle.unification.specs.declared.unifier.walking.Mark.TheVariants.{Open}
 use Rattle.unification.specs.Graph.{Sol}
 use Rattle.unification.specs.Memory.{binds}
 use Rattle.unification.specs.Finite.{mark_at, Ended}
@@ -22,8 +22,8 @@ loop-from-init c = record {
   rows = λ j h. absurd (omega arith);
 }
 
-pub class_of-root-requires : goal.class_of-root-requires
-class_of-root-requires c =
+pub resolve-root-requires : goal.resolve-root-requires
+resolve-root-requires c =
     let u = c.args.self.now in
     let e = c.as_slice-from-items.ensures.value in
     subst (λ L. Place (graph_of u) (length u.cells.now) (get_or {A = ℕ × ℕ} L c.loop-from.from-index (0, 0)).0) (sym e)
@@ -51,21 +51,21 @@ loop-from-preserved c =
           subst (λ ms. Kept u ms x) (sym w.marks-is)
           (elim w.else-not-binds.branch [
             | else-not-binds-via-then-not-binds+else-not-finite_rows w' ↦
-                (let sy = ap (binds u.kinds) (sym w.class_of-root.ensures.cell) ∙ sym w'.if-not-binds.ensures in
+                (let sy = ap (binds u.kinds) (sym w.resolve-root.ensures.cell) ∙ sym w'.if-not-binds.ensures in
                 let F = w'.if-not-finite_rows.ensures in
                 subst (λ ms. Kept u ms x) (sym w'.marks-is) (record {
                   sheet = omega (arith, I.sheet, w'.finite_rows.auto.marks);
                   closed = λ o h. I.closed o (F.opened refl o h);
                   ended = F.done refl;
-                  has = λ v. sol_down G W L u.fit.again x w.class_of-root.result.0 v w.class_of-root.ensures.place sy (F.rows refl);
+                  has = λ v. sol_down G W L u.fit.again x w.resolve-root.result.0 v w.resolve-root.ensures.place sy (F.rows refl);
                 }))
             | else-not-binds-via-else-not-binds w' ↦
-                (let sy = ap (binds u.kinds) (sym w.class_of-root.ensures.cell) ∙ sym w'.if-not-binds.ensures in
+                (let sy = ap (binds u.kinds) (sym w.resolve-root.ensures.cell) ∙ sym w'.if-not-binds.ensures in
                 subst (λ ms. Kept u ms x) (sym w'.marks-is) (record {
                   sheet = I.sheet;
                   closed = I.closed;
                   ended = I.ended;
-                  has = λ v. sol_var G W L x w.class_of-root.result.0 v w.class_of-root.ensures.place sy;
+                  has = λ v. sol_var G W L x w.resolve-root.result.0 v w.resolve-root.ensures.place sy;
                 }))
           ])
       | else-binds w ↦

@@ -1,5 +1,5 @@
 use Rattle.std.proofs.Common.{◌≡◌, ℕ, ◌<◌, true, List, length, get_or}
-use Rattle.unification.specs.declared.mark.Mark.TheVariants.{Open}
+use Rattle.unification.specs.declared.unifier.walking.Mark.TheVariants.{Open}
 use Rattle.unification.specs.Graph.{Sol}
 use Rattle.unification.specs.Memory.{binds}
 use Rattle.unification.specs.Finite.{mark_at, Ended}

@@ -4,8 +4,8 @@ use Rattle.unification.specs.Close.{Place}
 use Rattle.unification.specs.Unifiers.{graph_of}
 use Rattle.unification.proofs.FitFacts.{find_place}
 use Rattle.unification.proofs.DownFacts.{place_low, place_sym}
-use Rattle.unification.proofs.unifier.Unifier.class_of.Goals as goal
-use Rattle.unification.proofs.unifier.Unifier.class_of.Goals.{After-root-root}
+use Rattle.unification.proofs.unifier.Unifier.resolve.Goals as goal
+use Rattle.unification.proofs.unifier.Unifier.resolve.Goals.{After-root-root}
 
 stands : (c : After-root-root) → Place (graph_of c.args.self.now) (length c.args.self.now.cells.now) c.root-root.result
 stands c =
