@@ -1,7 +1,7 @@
 // Why a line of a script gives no call.
-ghost use Rattle.std.specs.Prelude.{◌≡◌, Some};
+ghost use Rattle.std.specs.Prelude.{◌≡◌, Some, alloc_error};
 ghost use Rattle.script.specs.Faults.{fault_text};
-ghost use Rattle.script.specs.declared.trouble.Trouble.TheVariants.{Line};
+ghost use Rattle.script.specs.declared.trouble.Trouble.TheVariants.{Line, Memory};
 
 use std::alloc::{AllocError, AllocFailed};
 use std::fmt;
@@ -55,12 +55,16 @@ impl<'a> From<LineFault<'a>> for Trouble<'a> {
 }
 
 impl<'a> From<AllocError> for Trouble<'a> {
+    ghost from_gives = { λ e r. r ≡ Memory e };
+
     fn from(error: AllocError) -> Trouble<'a> {
         Trouble::Memory(error)
     }
 }
 
 impl<'a, T: Drop> From<AllocFailed<T>> for Trouble<'a> {
+    ghost from_gives = { λ _ r. r ≡ Memory alloc_error };
+
     fn from(refused: AllocFailed<T>) -> Trouble<'a> {
         Trouble::Memory(refused.into())
     }
