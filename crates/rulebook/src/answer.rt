@@ -23,7 +23,7 @@ pub struct Held {
     pub unifiable: bool,
 }
 
-// A part, or a common form, may be lacking.
+// What a call answers. A part and a common form may be lacking.
 #[derive(Drop)]
 pub enum Answer<'a> {
     Formula(FormulaSize),
