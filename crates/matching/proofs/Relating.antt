@@ -42,7 +42,7 @@ one_variable τ (symbol k f ∷ r) v w e = cc
 one_variable τ (variable u ∷ []) v w e = refl
 one_variable τ (variable u ∷ (c ∷ r)) v w e = absurd (false≢true w)
 
-mutual_variant : (s t : List Cell) → General s t → General t s → Variant s t
+pub mutual_variant : (s t : List Cell) → General s t → General t s → Variant s t
 mutual_variant s t (σ, a) (τ, b) = (variable_laws.same s t).1 (sym (ap normalized renamed ∙ normalized_rename ρ π s there))
   where
     ρ : ℕ → ℕ
@@ -78,3 +78,12 @@ relation_laws = record {
   mutual_variants = λ s t. (λ h. (general t s (flip s t h), general s t h), λ h. mutual_variant s t h.0 h.1);
   one_common = one_common;
 }
+
+pub variant_there : (s t : List Cell) → Variant s t → General s t
+variant_there s t h = general t s (flip s t h)
+
+pub variant_back : (s t : List Cell) → Variant s t → General t s
+variant_back = general
+
+-- variants as rows that are general for each other
+pub ruleset variants = (mutual_variant, variant_there, variant_back)

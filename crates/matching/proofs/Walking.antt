@@ -17,7 +17,7 @@ use Rattle.matching.specs.Walking.{Reached}
 use Rattle.matching.specs.Bound.{First, BoundAt}
 use Rattle.matching.specs.Fronts.{FrontMatched}
 use Rattle.matching.proofs.Fronting.{front_of, taken}
-use Rattle.matching.proofs.Stepping.{rest}
+use Rattle.matching.proofs.Stepping.{rest, row_part}
 use Rattle.matching.proofs.Generality.{nothing}
 
 -- the first place of a variable, by the words
@@ -42,9 +42,9 @@ module _ (ps target : List ℕ) (k : ℕ) (b b' : List Binding) (none : b ≡ []
       let x = substitute σ (take k (row ps)) in
       absurd ((front None h).1 σ t.whole (nothing target σ) (length x) (front_of x (substitute σ (drop k (row ps))) (row target) (parts (row ps) (row target) k σ t)))
 
-  pub reached : (e : ℕ) → FrontMatched target b (row (take k ps)) 0 (Some e) b' → Reached (row ps) target k e
-  reached e h =
-      let m = (front (Some e) h).1 in
+  pub reached : (o : Option ℕ) (e : ℕ) → o ≡ Some e → FrontMatched target b (row (take k ps)) 0 o b' → Reached (row ps) target k e
+  reached o e is h =
+      let m = (front (Some e) (rw is at h)).1 in
       record {
         inside = m.inside (omega arith);
         rest = λ σ t. (taken target [] b' (take k (row ps)) 0 e m σ t.whole (substitute σ (drop k (row ps))) (nothing target σ, parts (row ps) (row target) k σ t)).1;
@@ -59,8 +59,9 @@ module _ (s : List Cell) (target : List ℕ) (k v at : ℕ) (f : First s v k) (r
   begins : (σ : ℕ → List Cell) → Turns σ s (row target) → σ v ++ substitute σ (drop (k + 1) s) ≡ drop at (row target)
   begins σ t = ap (substitute σ) (sym (from_place s k v f.here)) ∙ r.rest σ t
 
-  pub bound_at : (e : ℕ) → Ends target at (Some e) → General s (row target) → BoundAt s (row target) v at (between at e (row target))
-  bound_at e ends (σ, t) =
+  pub bound_at : (o : Option ℕ) (e : ℕ) → o ≡ Some e → Ends target at o → General s (row target) → BoundAt s (row target) v at (row (take (e - at) (drop at target)))
+  bound_at o e is h (σ, t) =
+      let ends : Ends target at (Some e) = rw is at h in
       let whole = ap length (parts s (row target) k σ t) in
       let front = length-append (substitute σ (take k s)) (substitute σ (drop k s)) in
       let tail = ap length (r.rest σ t) ∙ length-drop at (row target) in
@@ -72,7 +73,7 @@ module _ (s : List Cell) (target : List ℕ) (k v at : ℕ) (f : First s v k) (r
         k = k;
         first = f;
         position = omega arith;
-        part = sym (row_laws.front (σ v) (between at e (row target)) (substitute σ (drop (k + 1) s)) (drop e (row target)) (t.whole v) ends.1 (begins σ t ∙ (rest target at e ends).1)).0;
+        part = sym (row_part target (e - at) at) ∙ sym (row_laws.front (σ v) (between at e (row target)) (substitute σ (drop (k + 1) s)) (drop e (row target)) (t.whole v) ends.1 (begins σ t ∙ (rest target at e ends).1)).0;
       }
 
   pub ends_some : (o : Option ℕ) → Ends target at o → General s (row target) → IsSome o
@@ -81,3 +82,6 @@ module _ (s : List Cell) (target : List ℕ) (k v at : ℕ) (f : First s v k) (r
       let n : at + length (σ v) - at ≡ length (σ v) = omega arith in
       let same = front_of (σ v) (substitute σ (drop (k + 1) s)) (drop at (row target)) (begins σ t) ∙ ap (λ n. take n (drop at (row target))) (sym n) in
       absurd (none (at + length (σ v)) (subst Whole same (t.whole v)))
+
+-- where a part that is bound begins and ends
+pub ruleset places = (front_some, reached, ends_some)

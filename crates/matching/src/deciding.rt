@@ -10,6 +10,7 @@ use cells::{Formula, Row, RuleSide};
 use substitution::Bindings;
 
 // Whether some substitution of the pattern's variables turns it into the target.
+#[tactic(auto, using(crate::proofs::Generality::decided))]
 fn turns<const M: usize, const N: usize>(pattern: &Row<M>, target: &Row<N>) -> bool
     requires { M ≤ 256 }
     ensures { Decides result (General (row (row_words pattern.now)) (row (row_words target.now))) }
@@ -33,6 +34,7 @@ pub fn is_instance(left: &RuleSide, formula: &Formula) -> bool
 }
 
 // Whether the left side is a variant of the formula: each is general for the other.
+#[tactic(auto, using(crate::proofs::Relating::variants))]
 pub fn is_variant(left: &RuleSide, formula: &Formula) -> bool
     ensures { Decides result (Variant (row (row_words left.now)) (row (row_words formula.now))) }
 {

@@ -25,6 +25,7 @@ fn first_place(pattern: &[u32], v: u32) -> Option<usize>
 }
 
 // Where what is put for the pattern's cell at `k` begins, if the pattern is general for the target.
+#[tactic(auto, using(crate::proofs::Walking::places))]
 fn place(pattern: &[u32], k: usize, target: &[u32]) -> usize
     requires inside { k < length pattern.now }
     requires short { length pattern.now ≤ 256 }
@@ -35,6 +36,7 @@ fn place(pattern: &[u32], k: usize, target: &[u32]) -> usize
 }
 
 // The part of the target that the variable is bound to.
+#[tactic(auto, using(crate::proofs::Walking::places))]
 fn bound<'a>(pattern: &[u32], v: u32, target: &'a [u32]) -> Option<Found<'a>>
     requires short { length pattern.now ≤ 256 }
     requires holds { General (row pattern.now) (row target.now) }
@@ -50,6 +52,7 @@ fn bound<'a>(pattern: &[u32], v: u32, target: &'a [u32]) -> Option<Found<'a>>
 }
 
 // The binding of the asked variable in checked rows, if the asked relation holds: a part of the rows as they came.
+#[tactic(auto, using(crate::proofs::Relating::variants))]
 fn find<'a>(
     asked: Asked,
     pair: &CheckedPair,
