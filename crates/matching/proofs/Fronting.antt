@@ -86,19 +86,26 @@ module _ (source : List ℕ) (b b' : List Binding) (s t : List Cell) (at mid : �
       let y = taken source b b' s at mid m σ p (substitute σ t ++ r) (a, o) in
       n σ p y.0 (length (substitute σ t)) (front_of (substitute σ t) r (drop mid (row source)) y.1)
 
-module _ (source : List ℕ) (b b' b'' : List Binding) (s t : List Cell) (at mid : ℕ) (h : FrontMatched source b s at (Some mid) b') where
-  pub front_more : (e : ℕ) → FrontMatched source b' t mid (Some e) b'' → FrontMatched source b (s ++ t) at (Some e) b''
-  front_more e x = (longer_more b b' b'' (length s) (length t) (length (s ++ t)) h.0 x.0 (omega (arith, length-append s t)), matched_more source b b' s t at mid h.1 e b'' x.1)
+-- one more cell of a pattern, after those before it
+module _ (source : List ℕ) (b b' b'' : List Binding) (ps : List ℕ) (i at mid : ℕ) (l : i < length ps) (h : FrontMatched source b (take i (row ps)) at (Some mid) b') where
+  abbrev c : List Cell
+  c = cell (get_or ps i 0) ∷ []
 
-  pub front_fails : FrontMatched source b' t mid None b'' → (u : List Cell) → FrontMatched source b ((s ++ t) ++ u) at None b''
-  front_fails x u = (
-    longer_more b b' b'' (length s) (length t) (length ((s ++ t) ++ u)) h.0 x.0 (omega (arith, length-append s t, length-append (s ++ t) u)),
-    unmatched_more source b b' s t at mid h.1 x.1 u,
+  more : take (i + 1) (row ps) ≡ take i (row ps) ++ c
+  more = take-map cell (i + 1) ps ∙ ap row (take_more ps i 0 l) ∙ map-append cell (take i ps) (get_or ps i 0 ∷ []) ∙ ap (λ z. z ++ c) (sym (take-map cell i ps))
+
+  left : (take i (row ps) ++ c) ++ drop (i + 1) (row ps) ≡ row ps
+  left = rw (← more) (take-append-drop (i + 1) (row ps))
+
+  pub cell_matched : (e : ℕ) → FrontMatched source b' c mid (Some e) b'' → FrontMatched source b (take (i + 1) (row ps)) at (Some e) b''
+  cell_matched e x = rw more (
+    longer_more b b' b'' (length (take i (row ps))) 1 (length (take i (row ps) ++ c)) h.0 x.0 (omega (arith, length-append (take i (row ps)) c)),
+    matched_more source b b' (take i (row ps)) c at mid h.1 e b'' x.1,
   )
 
--- one more cell of a pattern
-pub cell_more : (ps : List ℕ) (i : ℕ) → i < length ps → take (i + 1) (row ps) ≡ take i (row ps) ++ cell (get_or ps i 0) ∷ []
-cell_more ps i l = take-map cell (i + 1) ps ∙ ap row (take_more ps i 0 l) ∙ map-append cell (take i ps) (get_or ps i 0 ∷ []) ∙ ap (λ z. z ++ cell (get_or ps i 0) ∷ []) (sym (take-map cell i ps))
-
-pub cells_left : (ps : List ℕ) (i : ℕ) → i < length ps → (take i (row ps) ++ cell (get_or ps i 0) ∷ []) ++ drop (i + 1) (row ps) ≡ row ps
-cells_left ps i l = rw (← cell_more ps i l) (take-append-drop (i + 1) (row ps))
+  pub cell_unmatched : FrontMatched source b' c mid None b'' → FrontMatched source b (row ps) at None b''
+  cell_unmatched x = rw (← left) (
+    longer_more b b' b'' (length (take i (row ps))) 1 (length ((take i (row ps) ++ c) ++ drop (i + 1) (row ps))) h.0 x.0
+        (omega (arith, length-append (take i (row ps)) c, length-append (take i (row ps) ++ c) (drop (i + 1) (row ps)))),
+    unmatched_more source b b' (take i (row ps)) c at mid h.1 x.1 (drop (i + 1) (row ps)),
+  )
