@@ -10,9 +10,9 @@ use Rattle.unification.specs.Graph.{Graph, Laws, Links, find, canon, norm}
 use Rattle.unification.specs.Codes.{is_var}
 use Rattle.unification.specs.Memory.{need, binds, size, Has, cell_at, places_from, kids_at, Memory, over}
 use Rattle.unification.specs.Close.{Place, Fit, Out}
-use Rattle.unification.specs.Unifiers.{graph_of}
+use Rattle.unification.specs.Unifiers.{graph_of, Root}
 use Rattle.unification.proofs.MemFacts.{laws, has_step, has_drop, cell_low, low_var, var_word, need_word}
-use Rattle.unification.proofs.FitFacts.{place_at, place_node, norm_place, room_more, fit_more}
+use Rattle.unification.proofs.FitFacts.{place_at, place_node, room_more, fit_more}
 use Rattle.unification.proofs.OutFacts.{true_not, out_same, out_bind, out_clash, out_down_no, out_down, out_sym}
 
 pub binds_var : (kinds : Kinds) (c : ℕ) → binds kinds c ≡ true → is_var c ≡ true
@@ -99,10 +99,18 @@ module _ (mem : List ℕ) (M : Memory mem) (kinds : Kinds) where
 pub law_of : (u : Unifier) → Laws (graph_of u)
 law_of u = law u.cells.now u.memory u.kinds
 
+-- a link between two places that stand for themselves
+module _ (u : Unifier) (x y : ℕ) (from : Root u x) (to : Root u y) (ne : x ≢ y) where
+  pub link_room : length u.links.items < 512
+  link_room = room_more (graph_of u) (length u.cells.now) 512 u.links.items u.fit x y ne from.itself to.itself from.place to.place
+
+  pub link_fit : Fit (graph_of u) (length u.cells.now) 512 (u.links.items ++ ((x, y) ∷ []))
+  link_fit = fit_more (graph_of u) (length u.cells.now) 512 u.links.items u.fit x y ne from.itself to.itself from.place to.place
+
 -- the places x and y stand for those at i and j
 pub record Heads (u : Unifier) (i j x y : ℕ) : Type 0 where
-  pub hi : i < length u.cells.now
-  pub hj : j < length u.cells.now
+  pub rx : find u.links.items x ≡ x
+  pub ry : find u.links.items y ≡ y
   pub ex : x ≡ norm (graph_of u) u.links.items i
   pub ey : y ≡ norm (graph_of u) u.links.items j
 
@@ -130,47 +138,26 @@ module _ (u : Unifier) (i j x y : ℕ) (H : Heads u i j x y) where
   abbrev W : Laws G
   W = law_of u
 
-  px : Place G (length mem) x
-  px = subst (Place G (length mem)) (sym H.ex) (norm_place G (length mem) L u.fit.ends i H.hi)
-
-  py : Place G (length mem) y
-  py = subst (Place G (length mem)) (sym H.ey) (norm_place G (length mem) L u.fit.ends j H.hj)
-
-  rx : find L x ≡ x
-  rx = ap (find L) H.ex ∙ u.fit.again (canon G i) ∙ sym H.ex
-
-  ry : find L y ≡ y
-  ry = ap (find L) H.ey ∙ u.fit.again (canon G j) ∙ sym H.ey
-
-  pub head_room : x ≢ y → length L < 512
-  head_room ne = room_more G (length mem) 512 L u.fit x y ne rx ry px py
-
-  pub head_fit : x ≢ y → Fit G (length mem) 512 (L ++ ((x, y) ∷ []))
-  head_fit ne = fit_more G (length mem) 512 L u.fit x y ne rx ry px py
-
-  pub back_fit : x ≢ y → Fit G (length mem) 512 (L ++ ((y, x) ∷ []))
-  back_fit ne = fit_more G (length mem) 512 L u.fit y x (λ e. ne (sym e)) ry rx py px
-
   pub wrap_same : x ≡ y → Wrap G L L i j
   wrap_same e N ps qs b O = out_same G W L N i j ps qs b (sym H.ex ∙ e ∙ H.ey) O
 
   pub wrap_bind : binds u.kinds (cell_at mem x) ≡ true → Wrap G L (L ++ ((x, y) ∷ [])) i j
-  wrap_bind v N ps qs b O = out_bind G W L i j x y (sym H.ex) (sym H.ey) rx ry N ps qs b v O
+  wrap_bind v N ps qs b O = out_bind G W L i j x y (sym H.ex) (sym H.ey) H.rx H.ry N ps qs b v O
 
   pub wrap_back : binds u.kinds (cell_at mem y) ≡ true → Wrap G L (L ++ ((y, x) ∷ [])) i j
   wrap_back v N ps qs b O =
       out_sym G W L N (j ∷ qs) (i ∷ ps) b
-      (out_bind G W L j i y x (sym H.ey) (sym H.ex) ry rx N qs ps b v (out_sym G W (L ++ ((y, x) ∷ [])) N ps qs b O))
+      (out_bind G W L j i y x (sym H.ey) (sym H.ex) H.ry H.rx N qs ps b v (out_sym G W (L ++ ((y, x) ∷ [])) N ps qs b O))
 
   module _ (sx : binds u.kinds (cell_at mem x) ≡ false) (sy : binds u.kinds (cell_at mem y) ≡ false) where
     pub clash : (ps qs : List ℕ) → cell_at mem x ≢ cell_at mem y → Out G L L (i ∷ ps) (j ∷ qs) false
-    clash ps qs ne = out_clash G W L i j x y (sym H.ex) (sym H.ey) rx ry sx sy ps qs ne
+    clash ps qs ne = out_clash G W L i j x y (sym H.ex) (sym H.ey) H.rx H.ry sx sy ps qs ne
 
     pub down_no : (N : Links) (ps qs : List ℕ) → Out G (L ++ ((x, y) ∷ [])) N (kids_at mem x) (kids_at mem y) false → Out G L N (i ∷ ps) (j ∷ qs) false
-    down_no N ps qs O = out_down_no G W L i j x y (sym H.ex) (sym H.ey) rx ry sx sy N ps qs O
+    down_no N ps qs O = out_down_no G W L i j x y (sym H.ex) (sym H.ey) H.rx H.ry sx sy N ps qs O
 
     pub wrap_down : cell_at mem x ≡ cell_at mem y → (K : Links) → Out G (L ++ ((x, y) ∷ [])) K (kids_at mem x) (kids_at mem y) true → Wrap G L K i j
-    wrap_down c K O N ps qs b P = out_down G W L i j x y (sym H.ex) (sym H.ey) rx ry sx sy K N ps qs b c O P
+    wrap_down c K O N ps qs b P = out_down G W L i j x y (sym H.ex) (sym H.ey) H.rx H.ry sx sy K N ps qs b c O P
 
   pub kids_out : (m : ℕ) → m ≡ need (cell_at mem x) → m ≡ need (cell_at mem y) → (N K : Links) (r : Bool) → N ≡ L ++ ((x, y) ∷ [])
       → Out G N K (places_from mem (x + 1) m) (places_from mem (y + 1) m) r → Out G (L ++ ((x, y) ∷ [])) K (kids_at mem x) (kids_at mem y) r

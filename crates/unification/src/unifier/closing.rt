@@ -1,13 +1,25 @@
 // Closing the links under equations.
-ghost use Rattle.std.specs.Prelude.{◌≡◌, length, drop};
+ghost use Rattle.std.specs.Prelude.{◌≡◌, ◌≢◌, [], ◌∷◌, ◌++◌, length, drop};
 ghost use Rattle.unification.specs.Memory.{Has};
 ghost use Rattle.unification.specs.Close.{Out};
-ghost use Rattle.unification.specs.Unifiers.{graph_of, links_of, rows_of};
+ghost use Rattle.unification.specs.Unifiers.{graph_of, links_of, rows_of, Root};
 
 use super::Unifier;
 use cells::arity_of;
 
 impl Unifier<'_> {
+    // Lets y stand for x, and for all that x stood for.
+    fn link(&mut self, x: u32, y: u32)
+        requires from { Root self.old x }
+        requires to { Root self.old y }
+        requires apart { x ≢ y }
+        ensures cells { self.new.cells ≡ self.old.cells }
+        ensures kinds { self.new.kinds ≡ self.old.kinds }
+        ensures links { links_of self.new ≡ links_of self.old ++ (x, y) ∷ [] }
+    {
+        self.links.push((x, y));
+    }
+
     // Makes one the n rows that begin at i and the n rows that begin at j, if that is possible.
     pub(super) fn unify_rows(&mut self, i: u32, j: u32, n: usize) -> bool
         requires left { Has n (drop i self.old.cells.now) }
@@ -24,13 +36,13 @@ impl Unifier<'_> {
         let (y, d) = self.head(j);
         if x != y {
             if self.kinds.binds(c) {
-                self.links.push((x, y));
+                self.link(x, y);
             } else if self.kinds.binds(d) {
-                self.links.push((y, x));
+                self.link(y, x);
             } else if c != d {
                 return false;
             } else {
-                self.links.push((x, y));
+                self.link(x, y);
                 if !self.unify_rows(x + 1, y + 1, arity_of(c)) {
                     return false;
                 }

@@ -4,7 +4,7 @@ ghost use Rattle.unification.specs.Graph.{find, norm};
 ghost use Rattle.unification.specs.Codes.{is_var};
 ghost use Rattle.unification.specs.Memory.{binds, size, cell_at, Memory};
 ghost use Rattle.unification.specs.Close.{Place};
-ghost use Rattle.unification.specs.Unifiers.{graph_of, size_of, links_of};
+ghost use Rattle.unification.specs.Unifiers.{graph_of, size_of, links_of, Root};
 
 use super::Unifier;
 use crate::kinds::Kinds;
@@ -55,6 +55,7 @@ impl<'a> Unifier<'a> {
     pub(super) fn resolve(&self, place: u32) -> (u32, u32)
         requires { Place (graph_of self.now) (size_of self.now) place }
         ensures place { result.0 ≡ find (links_of self.now) place }
+        ensures root { Root self.now result.0 }
         ensures cell { result.1 ≡ cell_at self.now.cells.now result.0 }
         ensures low { binds self.now.kinds result.1 ≡ false → result.0 < size_of self.now }
     {
@@ -66,6 +67,7 @@ impl<'a> Unifier<'a> {
     pub(super) fn head(&self, at: u32) -> (u32, u32)
         requires { at < size_of self.now }
         ensures place { result.0 ≡ norm (graph_of self.now) (links_of self.now) at }
+        ensures root { Root self.now result.0 }
         ensures cell { result.1 ≡ cell_at self.now.cells.now result.0 }
         ensures low { binds self.now.kinds result.1 ≡ false → result.0 < size_of self.now }
     {

@@ -1,19 +1,14 @@
-use Rattle.std.proofs.Common.{◌≡◌, ℕ, ◌+◌, ◌-◌, true, false, length, drop, lit<, sym, refl, ap, ◌∙◌, subst, subst₂, arith, length-append}
+use Rattle.std.proofs.Common.{◌≡◌, ℕ, ◌+◌, ◌-◌, true, false, [], ◌∷◌, length, drop, sym, refl, ap, ◌∙◌, subst, subst₂, arith, length-append}
 use Rattle.unification.specs.Memory.{Has, need, size, binds, places_from}
-use Rattle.unification.specs.Close.{Fit, Out}
+use Rattle.unification.specs.Close.{Out}
 use Rattle.unification.specs.Unifiers.{graph_of}
 use Rattle.unification.proofs.OutFacts.{out_none}
-use Rattle.unification.proofs.DownFacts.{law_of, first_low, rest_has, places_first, places_cons, kids_has, need_arity, need_small, Heads, Wrap, Headed, head_room, head_fit, back_fit, wrap_same, wrap_bind, wrap_back, wrap_down, clash, down_no, kids_out, along}
+use Rattle.unification.proofs.DownFacts.{law_of, rest_has, places_first, places_cons, kids_has, need_arity, need_small, Heads, Wrap, Headed, link_room, wrap_same, wrap_bind, wrap_back, wrap_down, clash, down_no, kids_out, along}
 use Rattle.unification.proofs.unifier.Unifier.+unify_rows.Goals as goal
 use Rattle.unification.proofs.unifier.Unifier.+unify_rows.Goals.{then-x-y+then-binds, then-x-y+else-binds+then-binds-2, then-x-y+else-binds+else-binds-2+else-c-d+else-not-unify_rows, else-x-y, After-head-y, After-end-l}
 
 heads : (t : ℕ) (c : After-head-y t) → Heads c.args.self.now c.args.i c.args.j c.head-x.result.0 c.head-y.result.0
-heads t c = record {
-  hi = first_low c.args.self.now.cells.now c.args.n c.args.i c.if-n-eq0.false c.requires.left;
-  hj = first_low c.args.self.now.cells.now c.args.n c.args.j c.if-n-eq0.false c.requires.right;
-  ex = c.head-x.ensures.place;
-  ey = c.head-y.ensures.place;
-}
+heads t c = record { rx = c.head-x.ensures.root.itself; ry = c.head-y.ensures.root.itself; ex = c.head-x.ensures.place; ey = c.head-y.ensures.place }
 
 pub returns-then-n-eq0-clause-out : goal.returns-then-n-eq0-clause-out
 returns-then-n-eq0-clause-out t c =
@@ -23,30 +18,6 @@ returns-then-n-eq0-clause-out t c =
     let L = u.links.items in
     subst (λ n. Out G L L (places_from mem c.args.i n) (places_from mem c.args.j n) true) (sym c.if-n-eq0.true)
     (out_none G (law_of u) L)
-
-pub push-requires : goal.push-requires
-push-requires t c = (lit< tt, head_room c.args.self.now c.args.i c.args.j c.head-x.result.0 c.head-y.result.0 (heads t (goal.at.push-requires t c).After-head-y) c.if-x-y.true)
-
-pub push-requires-then-binds-2 : goal.push-requires-then-binds-2
-push-requires-then-binds-2 t c = (lit< tt, head_room c.args.self.now c.args.i c.args.j c.head-x.result.0 c.head-y.result.0 (heads t (goal.at.push-requires-then-binds-2 t c).After-head-y) c.if-x-y.true)
-
-pub push-requires-else-c-d : goal.push-requires-else-c-d
-push-requires-else-c-d t c = (lit< tt, head_room c.args.self.now c.args.i c.args.j c.head-x.result.0 c.head-y.result.0 (heads t (goal.at.push-requires-else-c-d t c).After-head-y) c.if-x-y.true)
-
-pub invariant_of-self-clause-fit : goal.invariant_of-self-clause-fit
-invariant_of-self-clause-fit t c =
-    let u = c.args.self.now in
-    subst (Fit (graph_of u) (length u.cells.now) 512) (sym c.push.ensures.items) (head_fit c.args.self.now c.args.i c.args.j c.head-x.result.0 c.head-y.result.0 (heads t (goal.at.invariant_of-self-clause-fit t c).After-head-y) c.if-x-y.true)
-
-pub invariant_of-self-then-binds-2-clause-fit : goal.invariant_of-self-then-binds-2-clause-fit
-invariant_of-self-then-binds-2-clause-fit t c =
-    let u = c.args.self.now in
-    subst (Fit (graph_of u) (length u.cells.now) 512) (sym c.push-then-binds-2.ensures.items) (back_fit c.args.self.now c.args.i c.args.j c.head-x.result.0 c.head-y.result.0 (heads t (goal.at.invariant_of-self-then-binds-2-clause-fit t c).After-head-y) c.if-x-y.true)
-
-pub invariant_of-self-else-c-d-clause-fit : goal.invariant_of-self-else-c-d-clause-fit
-invariant_of-self-else-c-d-clause-fit t c =
-    let u = c.args.self.now in
-    subst (Fit (graph_of u) (length u.cells.now) 512) (sym c.push-else-c-d.ensures.items) (head_fit c.args.self.now c.args.i c.args.j c.head-x.result.0 c.head-y.result.0 (heads t (goal.at.invariant_of-self-else-c-d-clause-fit t c).After-head-y) c.if-x-y.true)
 
 pub returns-then-c-d-clause-out : goal.returns-then-c-d-clause-out
 returns-then-c-d-clause-out t c =
@@ -62,15 +33,16 @@ pub unify_rows-requires : goal.unify_rows-requires
 unify_rows-requires t c =
     let u = c.args.self.now in
     let mem = u.cells.now in
-    let at = (goal.at.unify_rows-requires t c).After-head-y in
-    let room = head_room c.args.self.now c.args.i c.args.j c.head-x.result.0 c.head-y.result.0 (heads t at) c.if-x-y.true in
+    let v = c.link-else-c-d.ensures in
+    let room = link_room u c.head-x.result.0 c.head-y.result.0 c.head-x.ensures.root c.head-y.ensures.root c.if-x-y.true in
+    let longer = ap length v.links in
     let many = c.arity_of.ensures ∙ need_arity c.head-x.result.1 (omega arith) in
     let mx = many ∙ ap need c.head-x.ensures.cell in
     let my = many ∙ ap need (c.if-c-d.false ∙ c.head-y.ensures.cell) in (
-      omega (arith, c.decreases, c.push-else-c-d.ensures.len, many, need_small c.head-x.result.1 (omega arith)),
+      omega (arith, c.decreases, longer, length-append u.links.items ((c.head-x.result.0, c.head-y.result.0) ∷ []), many, need_small c.head-x.result.1 (omega arith)),
       (
-        subst (λ k. Has k (drop (c.head-x.result.0 + 1) mem)) (sym mx) (kids_has mem u.memory u.kinds c.head-x.result.0 (c.head-x.ensures.low (sym c.if-binds.ensures))),
-        subst (λ k. Has k (drop (c.head-y.result.0 + 1) mem)) (sym my) (kids_has mem u.memory u.kinds c.head-y.result.0 (c.head-y.ensures.low (sym c.if-binds-2.ensures))),
+        subst₂ (λ k b. Has k (drop (c.head-x.result.0 + 1) b.now)) (sym mx) (sym v.cells) (kids_has mem u.memory u.kinds c.head-x.result.0 (c.head-x.ensures.low (sym c.if-binds.ensures))),
+        subst₂ (λ k b. Has k (drop (c.head-y.result.0 + 1) b.now)) (sym my) (sym v.cells) (kids_has mem u.memory u.kinds c.head-y.result.0 (c.head-y.ensures.low (sym c.if-binds-2.ensures))),
       ),
     )
 
@@ -78,6 +50,7 @@ pub returns-then-not-unify_rows-clause-out : goal.returns-then-not-unify_rows-cl
 returns-then-not-unify_rows-clause-out t c =
     let u = c.args.self.now in
     let mem = u.cells.now in
+    let v = c.link-else-c-d.new.self in
     let at = (goal.at.returns-then-not-unify_rows-clause-out t c).After-head-y in
     let sx = ap (binds u.kinds) (sym c.head-x.ensures.cell) ∙ sym c.if-binds.ensures in
     let sy = ap (binds u.kinds) (sym c.head-y.ensures.cell) ∙ sym c.if-binds-2.ensures in
@@ -85,8 +58,9 @@ returns-then-not-unify_rows-clause-out t c =
     let mx = many ∙ ap need c.head-x.ensures.cell in
     let my = many ∙ ap need (c.if-c-d.false ∙ c.head-y.ensures.cell) in
     let K = c.unify_rows.new.self.links.items in
+    let O = along v.kinds u.kinds v.cells u.cells c.link-else-c-d.ensures.kinds c.link-else-c-d.ensures.cells v.links.items K (c.head-x.result.0 + 1) (c.head-y.result.0 + 1) c.arity_of.result false c.if-not-unify_rows.ensures.out in
     subst₂ (λ P Q. Out (graph_of u) u.links.items K P Q false) (sym (places_first mem c.args.n c.args.i c.if-n-eq0.false c.requires.left)) (sym (places_first mem c.args.n c.args.j c.if-n-eq0.false c.requires.right))
-    (down_no c.args.self.now c.args.i c.args.j c.head-x.result.0 c.head-y.result.0 (heads t at) sx sy K _ _ (kids_out c.args.self.now c.args.i c.args.j c.head-x.result.0 c.head-y.result.0 (heads t at) c.arity_of.result mx my c.push-else-c-d.new.self.items K false c.push-else-c-d.ensures.items c.if-not-unify_rows.ensures.out))
+    (down_no c.args.self.now c.args.i c.args.j c.head-x.result.0 c.head-y.result.0 (heads t at) sx sy K _ _ (kids_out c.args.self.now c.args.i c.args.j c.head-x.result.0 c.head-y.result.0 (heads t at) c.arity_of.result mx my v.links.items K false c.link-else-c-d.ensures.links O))
 
 -- whichever way the first equation went
 headed : (t : ℕ) (c : After-end-l t) → Heads c.args.self.now c.args.i c.args.j c.head-x.result.0 c.head-y.result.0 → Headed c.args.self.now c.if-x-y.self c.args.i c.args.j
@@ -97,18 +71,18 @@ headed t c h =
     elim c.if-x-y.branch [
       | then-x-y+then-binds w ↦
           subst (λ v. Headed u v c.args.i c.args.j) (sym w.self-is) (record {
-            cells = refl;
-            kinds = refl;
-            longer = omega (arith, w.push.ensures.len);
-            wrap = subst (λ K. Wrap G u.links.items K c.args.i c.args.j) (sym w.push.ensures.items)
+            cells = w.link.ensures.cells;
+            kinds = w.link.ensures.kinds;
+            longer = omega (arith, ap length w.link.ensures.links, length-append u.links.items ((c.head-x.result.0, c.head-y.result.0) ∷ []));
+            wrap = subst (λ K. Wrap G u.links.items K c.args.i c.args.j) (sym w.link.ensures.links)
                 (wrap_bind c.args.self.now c.args.i c.args.j c.head-x.result.0 c.head-y.result.0 h (ap (binds u.kinds) (sym c.head-x.ensures.cell) ∙ sym w.if-binds.ensures));
           })
       | then-x-y+else-binds+then-binds-2 w ↦
           subst (λ v. Headed u v c.args.i c.args.j) (sym w.self-is) (record {
-            cells = refl;
-            kinds = refl;
-            longer = omega (arith, w.push-then-binds-2.ensures.len);
-            wrap = subst (λ K. Wrap G u.links.items K c.args.i c.args.j) (sym w.push-then-binds-2.ensures.items)
+            cells = w.link-then-binds-2.ensures.cells;
+            kinds = w.link-then-binds-2.ensures.kinds;
+            longer = omega (arith, ap length w.link-then-binds-2.ensures.links, length-append u.links.items ((c.head-y.result.0, c.head-x.result.0) ∷ []));
+            wrap = subst (λ K. Wrap G u.links.items K c.args.i c.args.j) (sym w.link-then-binds-2.ensures.links)
                 (wrap_back c.args.self.now c.args.i c.args.j c.head-x.result.0 c.head-y.result.0 h (ap (binds u.kinds) (sym c.head-y.ensures.cell) ∙ sym w.if-binds-2.ensures));
           })
       | then-x-y+else-binds+else-binds-2+else-c-d+else-not-unify_rows w ↦
@@ -118,13 +92,15 @@ headed t c h =
           let mx = many ∙ ap need c.head-x.ensures.cell in
           let my = many ∙ ap need (w.if-c-d.false ∙ c.head-y.ensures.cell) in
           let K = w.unify_rows.new.self.links.items in
-          let O = w.if-not-unify_rows.ensures.out in
+          let v = w.link-else-c-d.new.self in
+          let e = w.link-else-c-d.ensures in
+          let O = along v.kinds u.kinds v.cells u.cells e.kinds e.cells v.links.items K (c.head-x.result.0 + 1) (c.head-y.result.0 + 1) w.arity_of.result true w.if-not-unify_rows.ensures.out in
           subst (λ v. Headed u v c.args.i c.args.j) (sym w.self-is) (record {
-            cells = w.unify_rows.ensures.cells;
-            kinds = w.unify_rows.ensures.kinds;
-            longer = omega (arith, w.push-else-c-d.ensures.len, ap length O.grown, length-append w.push-else-c-d.new.self.items O.new);
+            cells = w.unify_rows.ensures.cells ∙ e.cells;
+            kinds = w.unify_rows.ensures.kinds ∙ e.kinds;
+            longer = omega (arith, ap length e.links, length-append u.links.items ((c.head-x.result.0, c.head-y.result.0) ∷ []), ap length O.grown, length-append v.links.items O.new);
             wrap = wrap_down c.args.self.now c.args.i c.args.j c.head-x.result.0 c.head-y.result.0 h sx sy (sym c.head-x.ensures.cell ∙ w.if-c-d.false ∙ c.head-y.ensures.cell) K
-                (kids_out c.args.self.now c.args.i c.args.j c.head-x.result.0 c.head-y.result.0 h w.arity_of.result mx my w.push-else-c-d.new.self.items K true w.push-else-c-d.ensures.items O);
+                (kids_out c.args.self.now c.args.i c.args.j c.head-x.result.0 c.head-y.result.0 h w.arity_of.result mx my v.links.items K true e.links O);
           }))
       | else-x-y w ↦
           subst (λ v. Headed u v c.args.i c.args.j) (sym w.self-is) (record {

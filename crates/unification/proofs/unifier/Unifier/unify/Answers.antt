@@ -1,4 +1,4 @@
-use Rattle.std.proofs.Common.{[], ◌∷◌, length, true, sym, subst}
+use Rattle.std.proofs.Common.{[], ◌∷◌, true, sym, subst}
 use Rattle.unification.specs.Graph.{Sat}
 use Rattle.unification.specs.Close.{Out, Solved}
 use Rattle.unification.specs.Unifiers.{graph_of}
