@@ -1,4 +1,4 @@
-use Rattle.std.proofs.Common.{◌≡◌, ℕ, ◌+◌, ◌-◌, true, false, [], ◌∷◌, length, drop, sym, refl, ap, ◌∙◌, subst, subst₂, arith, length-append}
+use Rattle.std.proofs.Common.{◌≡◌, ℕ, ◌+◌, ◌-◌, true, false, length, drop, sym, refl, ap, ◌∙◌, subst, subst₂, arith, length-append}
 use Rattle.unification.specs.Memory.{Has, need, size, binds, places_from}
 use Rattle.unification.specs.Close.{Out}
 use Rattle.unification.specs.Unifiers.{graph_of}
@@ -39,7 +39,7 @@ unify_rows-requires t c =
     let many = c.arity_of.ensures ∙ need_arity c.head-x.result.1 (omega arith) in
     let mx = many ∙ ap need c.head-x.ensures.cell in
     let my = many ∙ ap need (c.if-c-d.false ∙ c.head-y.ensures.cell) in (
-      omega (arith, c.decreases, longer, length-append u.links.items ((c.head-x.result.0, c.head-y.result.0) ∷ []), many, need_small c.head-x.result.1 (omega arith)),
+      omega (arith, c.decreases, longer, length-append {A = ℕ × ℕ}, many, need_small c.head-x.result.1 (omega arith)),
       (
         subst₂ (λ k b. Has k (drop (c.head-x.result.0 + 1) b.now)) (sym mx) (sym v.cells) (kids_has mem u.memory u.kinds c.head-x.result.0 (c.head-x.ensures.low (sym c.if-binds.ensures))),
         subst₂ (λ k b. Has k (drop (c.head-y.result.0 + 1) b.now)) (sym my) (sym v.cells) (kids_has mem u.memory u.kinds c.head-y.result.0 (c.head-y.ensures.low (sym c.if-binds-2.ensures))),
@@ -73,7 +73,7 @@ headed t c h =
           subst (λ v. Headed u v c.args.i c.args.j) (sym w.self-is) (record {
             cells = w.link.ensures.cells;
             kinds = w.link.ensures.kinds;
-            longer = omega (arith, ap length w.link.ensures.links, length-append u.links.items ((c.head-x.result.0, c.head-y.result.0) ∷ []));
+            longer = omega (arith, ap length w.link.ensures.links, length-append {A = ℕ × ℕ});
             wrap = subst (λ K. Wrap G u.links.items K c.args.i c.args.j) (sym w.link.ensures.links)
                 (wrap_bind c.args.self.now c.args.i c.args.j c.head-x.result.0 c.head-y.result.0 h (ap (binds u.kinds) (sym c.head-x.ensures.cell) ∙ sym w.if-binds.ensures));
           })
@@ -81,7 +81,7 @@ headed t c h =
           subst (λ v. Headed u v c.args.i c.args.j) (sym w.self-is) (record {
             cells = w.link-then-binds-2.ensures.cells;
             kinds = w.link-then-binds-2.ensures.kinds;
-            longer = omega (arith, ap length w.link-then-binds-2.ensures.links, length-append u.links.items ((c.head-y.result.0, c.head-x.result.0) ∷ []));
+            longer = omega (arith, ap length w.link-then-binds-2.ensures.links, length-append {A = ℕ × ℕ});
             wrap = subst (λ K. Wrap G u.links.items K c.args.i c.args.j) (sym w.link-then-binds-2.ensures.links)
                 (wrap_back c.args.self.now c.args.i c.args.j c.head-x.result.0 c.head-y.result.0 h (ap (binds u.kinds) (sym c.head-y.ensures.cell) ∙ sym w.if-binds-2.ensures));
           })
@@ -98,7 +98,7 @@ headed t c h =
           subst (λ v. Headed u v c.args.i c.args.j) (sym w.self-is) (record {
             cells = w.unify_rows.ensures.cells ∙ e.cells;
             kinds = w.unify_rows.ensures.kinds ∙ e.kinds;
-            longer = omega (arith, ap length e.links, length-append u.links.items ((c.head-x.result.0, c.head-y.result.0) ∷ []), ap length O.grown, length-append v.links.items O.new);
+            longer = omega (arith, ap length e.links, length-append {A = ℕ × ℕ}, ap length O.grown);
             wrap = wrap_down c.args.self.now c.args.i c.args.j c.head-x.result.0 c.head-y.result.0 h sx sy (sym c.head-x.ensures.cell ∙ w.if-c-d.false ∙ c.head-y.ensures.cell) K
                 (kids_out c.args.self.now c.args.i c.args.j c.head-x.result.0 c.head-y.result.0 h w.arity_of.result mx my v.links.items K true e.links O);
           }))
