@@ -7,11 +7,11 @@ use Rattle.cells.specs.Rows.{Whole}
 use Rattle.cells.specs.Substitutions.{Substitution, substitute}
 use Rattle.cells.proofs.Terms.{Terms, reads_terms, terms_reads}
 use Rattle.matching.specs.Relations.{General, Unifiable}
-use Rattle.unification.specs.Codes.{is_var, cell_of, code, tagged, Low}
+use Rattle.unification.specs.Codes.{is_var, code, tagged}
 use Rattle.unification.specs.Memory.{need, binds, bound}
 use Rattle.unification.specs.Rows.{Wholes, image, put, WholeAt}
 use Rattle.unification.proofs.MemFacts.{need_var}
-use Rattle.unification.proofs.CodeFacts.{mid_var, need_cell, need_code, cell_code, code_var}
+use Rattle.unification.proofs.CodeFacts.{cell_of, Low, mid_var, need_cell, need_code, cell_code, code_var}
 
 -- some replacement of the variables of is_v makes one row of s and t
 pub record Relates (is_v : ℕ → Bool) (need : ℕ → ℕ) (s t : List ℕ) (r : Bool) : Type 0 where

@@ -1,11 +1,29 @@
 -- Every cell has a word, and a word says its cell. Assumes nothing.
-use Rattle.std.proofs.Common.{◌≡◌, ℕ, zero, suc, ◌+◌, ◌-◌, ◌*◌, ◌/◌, ◌%◌, ◌<◌, ◌≤◌, Bool, true, false, cond, ◌&&◌, ltb, leb, List, [], ◌∷◌, map, sym, refl, ap, ◌∙◌, ap₂, arith}
+use Rattle.std.proofs.Common.{◌≡◌, ℕ, zero, suc, ◌+◌, ◌-◌, ◌*◌, ◌/◌, ◌%◌, ◌<◌, ◌≤◌, Bool, true, false, cond, ◌⊎◌, ◌&&◌, ltb, leb, List, [], ◌∷◌, map, sym, refl, ap, ◌∙◌, ap₂, arith}
 use Rattle.std.proofs.lemmas.Bool.{lt-ltb, le-ltb, le-leb, ltb-true, and_parts, and_from, and_right}
 use Rattle.std.proofs.lemmas.Nat.{div-mul-add, mod-mul-add}
 use Rattle.cells.specs.Cells.{Cell, symbol, variable, arity}
-use Rattle.unification.specs.Codes.{after_pair, pair, triangle, place, pair_cell, high_cell, is_var, cell_of, code}
+use Rattle.unification.specs.Codes.{after_pair, pair, triangle, place, pair_cell, high_cell, is_var, code}
 use Rattle.unification.specs.Memory.{need}
 use Rattle.unification.proofs.MemFacts.{low_var}
+
+-- the cell that a word stands for; a variable goes by its whole word, so that variables of different kinds differ
+abbrev pub cell_of : ℕ → Cell
+cell_of w = cond (is_var w) (variable w) (cond (ltb w 0x100000000) (symbol (w / 65536) (w % 65536)) (high_cell (w - 0x100000000)))
+
+-- few enough variables that kinds do not meet
+abbrev pub Low : List Cell → Type 0
+Low [] = Unit {0}
+Low (symbol k f ∷ cs) = Low cs
+Low (variable v ∷ cs) = (v < 0x10000000) × Low cs
+
+-- a word of 32 bits
+abbrev pub Plain : ℕ → Type 0
+Plain w = (is_var w ≡ true) ⊎ (w < 0x80000000)
+
+abbrev pub AllPlain : List ℕ → Type 0
+AllPlain [] = Unit {0}
+AllPlain (w ∷ ws) = Plain w × AllPlain ws
 
 pair_next : (n a b : ℕ) → pair n ≡ (a, b) → pair (suc n) ≡ after_pair a b
 unfolding pair

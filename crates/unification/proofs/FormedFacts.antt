@@ -11,7 +11,7 @@ use Rattle.unification.specs.declared.fault.FormFault.{FormFault}
 use Rattle.unification.specs.declared.fault.FormFault.TheVariants.{ShortBuffer, Rows, TooLarge}
 use Rattle.unification.specs.declared.form.Form.{Form}
 use Rattle.unification.specs.declared.kinds.Kinds.{Kinds}
-use Rattle.unification.specs.Codes.{tagged, code, AllPlain}
+use Rattle.unification.specs.Codes.{tagged, code}
 use Rattle.unification.specs.Rows.{put}
 use Rattle.unification.specs.Graph.{val}
 use Rattle.unification.specs.Memory.{need, term_at, all_kinds, bound, Memory, over}
@@ -23,6 +23,7 @@ use Rattle.unification.proofs.BridgeFacts.{Relates, joint, joint_whole, left_put
 use Rattle.unification.proofs.TagFacts.{low_row, left_wholes, right_wholes, tagged_same, left_length, memory_length}
 use Rattle.unification.proofs.CommonFacts.{form_of, form_words, form_length, form_variables, form_common}
 use Rattle.unification.proofs.PlainFacts.{plain_memory, made_plain}
+use Rattle.unification.proofs.CodeFacts.{AllPlain}
 
 module _ (l f : List ℕ) (p : AllCells l) (q : AllCells f) (u : Whole (row l)) (v : Whole (row f)) (h : length (map (tagged 0x90000000) (row l) ++ f) < 0x80000000) where
   one : term_at (map (tagged 0x90000000) (row l) ++ f) 0 ≡ map (tagged 0x90000000) (row l)

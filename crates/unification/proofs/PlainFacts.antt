@@ -2,11 +2,11 @@
 use Rattle.std.proofs.Common.{◌≡◌, ℕ, zero, suc, ◌+◌, ◌-◌, ◌<◌, ◌≤◌, Bool, true, false, cond, List, [], ◌∷◌, ◌++◌, map, get_or, drop, sym, refl, subst, inl, inr, ⊎_elim, arith}
 use Rattle.cells.specs.Cells.{cell, row, IsCell, AllCells}
 use Rattle.cells.proofs.Words.{is_cell_cases}
-use Rattle.unification.specs.Codes.{is_var, tagged, Plain, AllPlain}
+use Rattle.unification.specs.Codes.{is_var, tagged}
 use Rattle.unification.specs.Graph.{Made}
 use Rattle.unification.specs.Memory.{or_var, cell_at, all_kinds, over}
 use Rattle.unification.proofs.MemFacts.{var_zero}
-use Rattle.unification.proofs.CodeFacts.{mid_var}
+use Rattle.unification.proofs.CodeFacts.{Plain, AllPlain, mid_var}
 use Rattle.unification.proofs.TagFacts.{tagged_symbol, tagged_variable, tagged_same}
 
 plain_tagged : (base w : ℕ) → 0x80000000 ≤ base → base ≤ 0x90000000 → IsCell w → Plain (tagged base (cell w))

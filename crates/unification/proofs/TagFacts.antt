@@ -7,10 +7,11 @@ use Rattle.cells.specs.Cells.{Cell, symbol, cell, row, IsCell, AllCells}
 use Rattle.cells.specs.Rows.{Whole}
 use Rattle.cells.proofs.Terms.{terms_reads}
 use Rattle.cells.proofs.Words.{cell_symbol, cell_variable, is_cell_cases}
-use Rattle.unification.specs.Codes.{place, code, tagged, Low}
+use Rattle.unification.specs.Codes.{place, code, tagged}
 use Rattle.unification.specs.Memory.{need}
 use Rattle.unification.specs.Rows.{Wholes}
 use Rattle.unification.proofs.BridgeFacts.{tagged_wholes}
+use Rattle.unification.proofs.CodeFacts.{Low}
 
 code_word : (w : ℕ) → w < 0x80000000 → code (symbol (w / 65536) (w % 65536)) ≡ w
 code_word w h =

@@ -1,5 +1,5 @@
 -- Every cell as a word, also those that 32 bits do not hold: these stand behind the words of 32 bits. Assumes nothing.
-use Rattle.std.specs.Prelude.{◌≡◌, ℕ, zero, suc, ◌+◌, ◌-◌, ◌*◌, ◌/◌, ◌%◌, ◌<◌, Bool, true, cond, ◌&&◌, ◌⊎◌, List, [], ◌∷◌, nat_le, nat_lt}
+use Rattle.std.specs.Prelude.{ℕ, zero, suc, ◌+◌, ◌*◌, Bool, cond, ◌&&◌, nat_le, nat_lt}
 use Rattle.cells.specs.Cells.{Cell, symbol, variable}
 
 -- the pairs of numbers, one after the other: by their sum, and of equal sum by the second number
@@ -32,10 +32,6 @@ high_cell n = pair_cell (pair n).0 (pair n).1
 unfoldable pub is_var : ℕ → Bool
 is_var c = nat_le 0x80000000 c && nat_lt c 0x100000000
 
--- the cell that a word stands for; a variable goes by its whole word, so that variables of different kinds differ
-abbrev pub cell_of : ℕ → Cell
-cell_of w = cond (is_var w) (variable w) (cond (nat_lt w 0x100000000) (symbol (w / 65536) (w % 65536)) (high_cell (w - 0x100000000)))
-
 -- the word of a cell as such: no variable's word
 abbrev pub code : Cell → ℕ
 code (symbol k f) = cond (nat_lt k 32768 && nat_lt f 65536) (k * 65536 + f) (0x100000000 + place (suc k) f)
@@ -45,17 +41,3 @@ code (variable v) = 0x100000000 + place 0 v
 abbrev pub tagged : ℕ → Cell → ℕ
 tagged base (symbol k f) = code (symbol k f)
 tagged base (variable v) = base + v
-
--- few enough variables that kinds do not meet
-abbrev pub Low : List Cell → Type 0
-Low [] = Unit {0}
-Low (symbol k f ∷ cs) = Low cs
-Low (variable v ∷ cs) = (v < 0x10000000) × Low cs
-
--- a word of 32 bits
-abbrev pub Plain : ℕ → Type 0
-Plain w = (is_var w ≡ true) ⊎ (w < 0x80000000)
-
-abbrev pub AllPlain : List ℕ → Type 0
-AllPlain [] = Unit {0}
-AllPlain (w ∷ ws) = Plain w × AllPlain ws
