@@ -12,8 +12,7 @@ mod theorems;
 
 pub use deciding::{is_general, is_instance, is_variant};
 pub use fault::MatchFault;
-pub use finding::calls::binding;
-pub use finding::{Asked, Found};
+pub use finding::{Asked, Found, binding};
 pub use pair::{CheckedPair, check_pair};
 pub use relation::{Relation, UnknownRelation};
 pub use theorems::relation_laws;

@@ -3,7 +3,8 @@
 
 mod bindings;
 mod trial;
+mod writing;
 
-pub use bindings::writing::{clipped, length_under, substitute_into};
 pub use bindings::{Binding, Bindings, Full, Part};
 pub use trial::Trial;
+pub use writing::{clipped, length_under, substitute_into};

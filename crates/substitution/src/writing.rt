@@ -2,7 +2,7 @@
 ghost use Rattle.std.specs.Prelude.{◌≡◌, ◌≤◌, [], ◌∷◌, ◌++◌, length, take, drop};
 ghost use Rattle.substitution.specs.Bindings.{bindings_list, under, Measured, Written};
 
-use super::{Bindings, Part};
+use crate::bindings::{Bindings, Part};
 use cells::VARIABLE;
 use std::slice;
 

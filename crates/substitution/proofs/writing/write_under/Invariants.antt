@@ -1,6 +1,6 @@
 use Rattle.std.proofs.Common.{◌≡◌, ◌++◌, length, take, drop}
 use Rattle.substitution.specs.Bindings.{bindings_list, under}
-use Rattle.substitution.proofs.bindings.writing.write_under.Given as goal
+use Rattle.substitution.proofs.writing.write_under.Given as goal
 
 abbrev pub invariant-loop-w : goal.invariant-loop-w
 invariant-loop-w l = record {

@@ -2,7 +2,7 @@ use Rattle.std.proofs.Common.{◌≡◌, ◌+◌, rules}
 use Rattle.std.proofs.lemmas.Iterator.{IsFirst-from_position, YieldsList-from_slice}
 use borrow.Author.Tests.{tests}
 use Rattle.matching.proofs.Walking.{first_by}
-use Rattle.matching.proofs.finding.calls.first_place.Goals as goal
+use Rattle.matching.proofs.finding.first_place.Goals as goal
 
 pub returns : goal.returns
 returns c =

@@ -1,6 +1,6 @@
 use Rattle.cells.specs.Cells.{row}
 use Rattle.matching.proofs.Walking.{bound_at}
-use Rattle.matching.proofs.finding.calls.bound.Goals as goal
+use Rattle.matching.proofs.finding.bound.Goals as goal
 
 pub returns : goal.returns
 returns c =
