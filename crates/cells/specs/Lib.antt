@@ -6,3 +6,4 @@ pub mod Interpretations
 pub mod Checks
 pub mod Rules
 pub mod Records
+pub mod Texts

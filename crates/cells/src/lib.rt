@@ -6,6 +6,7 @@ mod names;
 mod row;
 mod rule;
 mod side;
+mod text;
 mod theorems;
 mod word;
 
@@ -13,5 +14,6 @@ pub use check::{check_row, term_end};
 pub use row::{Formula, Row, RuleSide};
 pub use rule::Rule;
 pub use side::check_left;
+pub use text::CellsText;
 pub use theorems::laws;
 pub use word::{FormulaVar, RuleVar, TreeVar, VARIABLE, arity_of, is_cell};

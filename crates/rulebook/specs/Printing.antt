@@ -1,21 +1,9 @@
--- How cells, relations and counts are printed. Assumes nothing.
-use Rattle.std.specs.Prelude.{ℕ, ◌^◌, ◌-◌, Bool, if◌then◌else◌, true, false, List, [], ◌∷◌, ◌++◌, codes}
+-- How relations and counts are printed. Assumes nothing.
+use Rattle.std.specs.Prelude.{ℕ, Bool, if◌then◌else◌, List, [], ◌∷◌, ◌++◌, codes}
 use Rattle.std.specs.List.{flat_map}
-use Rattle.std.specs.Fmt.{decimal, digits, format_spec, padded_integral}
+use Rattle.std.specs.Fmt.{decimal}
 use Rattle.matching.specs.declared.relation.Relation.{Relation}
 use Rattle.matching.specs.Named.{relation_name}
-
--- 0x and eight hexadecimal digits
-abbrev pub cell_text : ℕ → List ℕ
-cell_text w = codes "0x" ++ padded_integral (format_spec 32 0 4 8 (2 ^ 64 - 1)) false [] (digits 16 true w)
-
--- each further one behind a space
-abbrev pub further_text : ℕ → List ℕ
-further_text w = codes " " ++ cell_text w
-
-abbrev pub cells_text : List ℕ → List ℕ
-cells_text [] = []
-cells_text (w ∷ ws) = cell_text w ++ flat_map further_text ws
 
 -- a relation that may hold, and its name behind a space if it does
 abbrev pub further_name : Bool × Relation → List ℕ

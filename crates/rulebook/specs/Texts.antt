@@ -14,7 +14,8 @@ use Rattle.rulebook.specs.declared.answer.Answer.{Answer}
 use Rattle.rulebook.specs.declared.answer.Answer.TheVariants as answer
 use Rattle.rulebook.specs.declared.refused.Refused.{Refused}
 use Rattle.rulebook.specs.declared.refused.Refused.TheVariants.{Formula, Rule, Pair, Common}
-use Rattle.rulebook.specs.Printing.{cells_text, names_text}
+use Rattle.cells.specs.Texts.{cells_text}
+use Rattle.rulebook.specs.Printing.{names_text}
 
 abbrev pub held_text : Held → List ℕ
 held_text x = names_text ((x.general, relation.General) ∷ (x.instance, relation.Instance) ∷ (x.variant, relation.Variant) ∷ (x.unifiable, relation.Unifiable) ∷ [])

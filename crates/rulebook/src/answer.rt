@@ -2,8 +2,8 @@
 ghost use Rattle.std.specs.Prelude.{Some};
 ghost use Rattle.rulebook.specs.Texts.{held_text, answer_text};
 
-use crate::printing::{CellsText, Names};
-use cells::Rule;
+use crate::printing::Names;
+use cells::{CellsText, Rule};
 use matching::{Found, Relation};
 use std::fmt;
 

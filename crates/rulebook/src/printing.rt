@@ -1,29 +1,10 @@
-// Rows of cells, and the names of relations, as they are printed.
+// The names of relations, as they are printed.
 ghost use Rattle.std.specs.Prelude.{Some};
 ghost use Rattle.std.specs.List.{flat_map};
-ghost use Rattle.rulebook.specs.Printing.{cells_text, further_name, names_text};
+ghost use Rattle.rulebook.specs.Printing.{further_name, names_text};
 
 use matching::Relation;
 use std::fmt;
-
-// Cells, with a space between them.
-#[derive(Clone, Copy)]
-pub struct CellsText<'a>(pub &'a [u32]);
-
-impl fmt::Display for CellsText<'_> {
-    ghost output = { λ t. Some (cells_text t.0.now) };
-
-    fn fmt<W: fmt::Write>(&self, f: &mut fmt::Formatter<W>) -> fmt::Result {
-        let Some((first, rest)) = self.0.split_first() else {
-            return Ok(());
-        };
-        write!(f, "0x{first:08X}")?;
-        for cell in rest {
-            write!(f, " 0x{cell:08X}")?;
-        }
-        Ok(())
-    }
-}
 
 // The names of the relations that hold, each behind a space.
 #[derive(Clone, Copy)]

@@ -3,6 +3,7 @@ ghost use Rattle.std.specs.Prelude.{◌<◌, ◌≤◌};
 
 use crate::numbers::Numbers;
 use crate::word::{ARGUMENT, VARIABLE, arity, renamed, substituted};
+use cells::CellsText;
 use std::alloc::{AllocError, Global};
 use std::fmt;
 
@@ -27,23 +28,10 @@ impl Pair {
     }
 }
 
-// Cells as they are printed.
-#[derive(Clone, Copy)]
-struct CellsText<'a>(&'a [u32]);
-
-impl fmt::Display for CellsText<'_> {
-    fn fmt<W: fmt::Write>(&self, f: &mut fmt::Formatter<W>) -> fmt::Result {
-        for cell in self.0 {
-            write!(f, " 0x{cell:08X}")?;
-        }
-        Ok(())
-    }
-}
-
 impl fmt::Display for Pair {
     fn fmt<W: fmt::Write>(&self, f: &mut fmt::Formatter<W>) -> fmt::Result {
         let (left, formula) = self.sides();
-        write!(f, "{} |{}", CellsText(left), CellsText(formula))
+        write!(f, " {} | {}", CellsText(left), CellsText(formula))
     }
 }
 

@@ -1,8 +1,8 @@
 use Rattle.std.proofs.Common.{take}
 use Rattle.std.specs.List.{flat_map}
 use Rattle.std.specs.Fmt.{HasWritten, IsPlainFormatter}
-use Rattle.rulebook.specs.Printing.{further_text}
-use Rattle.rulebook.proofs.printing.CellsTextDisplay.fmt.Given as goal
+use Rattle.cells.specs.Texts.{further_text}
+use Rattle.cells.proofs.text.CellsTextDisplay.fmt.Given as goal
 
 abbrev pub invariant-loop-cell : goal.invariant-loop-cell
 invariant-loop-cell g l =
