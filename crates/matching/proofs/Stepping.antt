@@ -1,8 +1,8 @@
 -- One cell of a pattern against a row. Assumes nothing.
-use Rattle.std.proofs.Common.{◌≡◌, ℕ, ◌+◌, ◌-◌, ◌<◌, ◌≤◌, Bool, true, false, ◌↔◌, List, [], ◌∷◌, ◌++◌, zero, suc, length, get_or, take, drop, Some, None, Decides, sym, refl, ap, ◌∙◌, subst, ⊎_elim, append-nil, arith, take-append-drop}
+use Rattle.std.proofs.Common.{◌≡◌, ℕ, ◌+◌, ◌-◌, ◌<◌, ◌≤◌, Bool, true, false, ◌↔◌, List, [], ◌∷◌, ◌++◌, zero, suc, length, get_or, take, drop, Some, None, Option, eqb, Decides, sym, refl, ap, ◌∙◌, subst, ⊎_elim, append-nil, arith, take-append-drop}
 use Rattle.std.specs.Bool.{then_some}
 use Rattle.std.specs.List.{between}
-use Rattle.std.proofs.lemmas.Bool.{false≢true, cases_lt}
+use Rattle.std.proofs.lemmas.Bool.{false≢true, eq-eqb, ne_eqb, cases_eq, cases_lt}
 use Rattle.std.proofs.lemmas.Grind.{common_steps}
 use Rattle.std.proofs.lemmas.List.{drop_more, take-map, drop-map}
 use Rattle.cells.specs.Cells.{Cell, cell, word, row, words}
@@ -14,7 +14,7 @@ use Rattle.substitution.specs.declared.bindings.Part.{Part}
 use Rattle.substitution.specs.declared.bindings.Binding.{Binding}
 use Rattle.substitution.specs.Bindings.{binding, lookup}
 use Rattle.matching.specs.Extending.{part, Agrees, AllWhole}
-use Rattle.matching.specs.Fronts.{Matched, Unmatched, FrontMatched}
+use Rattle.matching.specs.Fronts.{Matched, FrontMatched}
 use Rattle.matching.proofs.Longer.{longer_none, longer_one, whole_push, agrees_push}
 use Rattle.matching.proofs.Fronting.{part_rest}
 
@@ -49,10 +49,10 @@ module _ (source : List ℕ) (b : List Binding) (w at : ℕ) where
     same : (σ : ℕ → List Cell) → substitute σ (cell w ∷ []) ≡ cell w ∷ []
     same σ = simp (cell_symbol w small)
 
-    pub symbol_step : at < length source → (r : Bool) → Decides r (get_or source at 0 ≡ w) → FrontMatched source b (cell w ∷ []) at (then_some r (at + 1)) b
-    symbol_step l true d =
+    matched : at < length source → get_or source at 0 ≡ w → FrontMatched source b (cell w ∷ []) at (Some (at + 1)) b
+    matched l x =
         let z : at + 1 - at ≡ 1 = omega arith in
-        let part : cell w ∷ [] ≡ between at (at + 1) (row source) = let e = row_more source at l in let x = d.0 refl in grind (arith, common_steps) in (
+        let part : cell w ∷ [] ≡ between at (at + 1) (row source) = let e = row_more source at l in grind (arith, common_steps) in (
           longer_none b 1,
           record {
             order = omega arith;
@@ -62,21 +62,31 @@ module _ (source : List ℕ) (b : List Binding) (w at : ℕ) where
             only = λ σ p a k x. same σ ∙ part;
           },
         )
-    symbol_step l false d = (
+
+    unmatched : at < length source → (get_or source at 0 ≡ w → ⊥) → FrontMatched source b (cell w ∷ []) at None b
+    unmatched l n = (
       longer_none b 1,
       (λ σ p a k x.
           let c = one_cell (cell w) (cell (get_or source at 0)) (drop (at + 1) (row source)) k (sym (same σ) ∙ x ∙ ap (take k) (row_more source at l)) in
-          false≢true (d.1 (sym (word_cell (get_or source at 0)) ∙ ap word (sym c) ∙ word_cell w))),
+          n (sym (word_cell (get_or source at 0)) ∙ ap word (sym c) ∙ word_cell w)),
     )
+
+    pub symbol_step : (x : ℕ) (o : Option ℕ) → at < length source → x ≡ get_or source at 0 → o ≡ then_some (eqb x w) (at + 1) → FrontMatched source b (cell w ∷ []) at o b
+    symbol_step x o l e is =
+        ⊎_elim (λ same. rw (is, eq-eqb x w same) (matched l (sym e ∙ same))) (λ other. rw (is, ne_eqb x w other) (unmatched l (λ h. other (e ∙ h)))) (cases_eq x w)
 
   module _ (big : 2147483648 ≤ w) where
     image : (σ : ℕ → List Cell) → substitute σ (cell w ∷ []) ≡ σ (w - 2147483648)
     image σ = ap (λ c. substitute σ (c ∷ [])) (cell_variable w big) ∙ append-nil (σ (w - 2147483648))
 
-    pub no_term : Ends source at None → Unmatched source b (cell w ∷ []) at
-    no_term none σ p a k x =
-        let z : at + k - at ≡ k = omega arith in
-        none (at + k) (subst Whole (sym (image σ) ∙ x ∙ ap (λ n. take n (drop at (row source))) (sym z)) (p (w - 2147483648)))
+    pub none_step : (o : Option ℕ) → o ≡ None → Ends source at o → FrontMatched source b (cell w ∷ []) at o b
+    none_step o is h = rw is (
+      longer_none b 1,
+      (λ σ p a k x.
+          let none : Ends source at None = rw is at h in
+          let z : at + k - at ≡ k = omega arith in
+          none (at + k) (subst Whole (sym (image σ) ∙ x ∙ ap (λ n. take n (drop at (row source))) (sym z)) (p (w - 2147483648)))),
+    )
 
     module _ (e : ℕ) (ends : Ends source at (Some e)) where
       -- what is put for the variable there can only be that part
@@ -115,7 +125,10 @@ module _ (source : List ℕ) (b : List Binding) (w at : ℕ) where
         )
 
       -- it is not, and is bound to that part
-      pub free_step : lookup b w ≡ None → FrontMatched source b (cell w ∷ []) at (Some e) (b ++ binding w (record { at = at; len = e - at }) ∷ [])
-      free_step none =
+      pub free_step : (o : Option ℕ) (b' : List Binding) → lookup b w ≡ None → o ≡ Some e → b' ≡ b ++ binding w (record { at = at; len = e - at }) ∷ [] → FrontMatched source b (cell w ∷ []) at o b'
+      free_step o b' none is new =
           let q : Part = record { at = at; len = e - at } in
-          (longer_one b (binding w q), variable_matched (b ++ binding w q ∷ []) (whole_push source b w q none ends.1) (agrees_push source b w q none big))
+          rw (is, new) (longer_one b (binding w q), variable_matched (b ++ binding w q ∷ []) (whole_push source b w q none ends.1) (agrees_push source b w q none big))
+
+-- what one cell of a pattern answers
+pub ruleset steps = (symbol_step, none_step, free_step)

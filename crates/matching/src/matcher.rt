@@ -8,6 +8,7 @@ use cells::{VARIABLE, term_end};
 use substitution::{Bindings, Part, Trial, clipped};
 
 // Extends the bindings by one cell of a pattern, at a position of the target, and says where the next one stands.
+#[tactic(auto, using(crate::proofs::Stepping::steps))]
 fn extend_by(w: u32, target: &[u32], at: usize, list: &mut Bindings) -> Option<usize>
     requires room { length (bindings_list list.old) < 256 }
     ensures { FrontMatched target.now (bindings_list list.old) (cell w ∷ []) at result (bindings_list list.new) }
