@@ -29,6 +29,9 @@ general s t (ρ, π, x, e) = (renaming ρ, record { whole = λ v. refl; makes = 
 flip : (s t : List Cell) → Variant s t → Variant t s
 flip s t h = (variable_laws.same t s).1 (sym ((variable_laws.same s t).0 h))
 
+pub variant_general : (s t : List Cell) → Variant s t → General s t
+variant_general s t h = general t s (flip s t h)
+
 -- the variable that a row begins with, and 0 if it begins with none
 abbrev begins : List Cell → ℕ
 begins [] = 0
@@ -42,7 +45,7 @@ one_variable τ (symbol k f ∷ r) v w e = cc
 one_variable τ (variable u ∷ []) v w e = refl
 one_variable τ (variable u ∷ (c ∷ r)) v w e = absurd (false≢true w)
 
-pub mutual_variant : (s t : List Cell) → General s t → General t s → Variant s t
+mutual_variant : (s t : List Cell) → General s t → General t s → Variant s t
 mutual_variant s t (σ, a) (τ, b) = (variable_laws.same s t).1 (sym (ap normalized renamed ∙ normalized_rename ρ π s there))
   where
     ρ : ℕ → ℕ
@@ -75,15 +78,6 @@ relation_laws = record {
   carried = carried;
   instance_below = λ s t u. general_below t u s;
   unifiable_below = unifiable_below;
-  mutual_variants = λ s t. (λ h. (general t s (flip s t h), general s t h), λ h. mutual_variant s t h.0 h.1);
+  mutual_variants = λ s t. (λ h. (variant_general s t h, general s t h), λ h. mutual_variant s t h.0 h.1);
   one_common = one_common;
 }
-
-pub variant_there : (s t : List Cell) → Variant s t → General s t
-variant_there s t h = general t s (flip s t h)
-
-pub variant_back : (s t : List Cell) → Variant s t → General t s
-variant_back = general
-
--- variants as rows that are general for each other
-pub ruleset variants = (mutual_variant, variant_there, variant_back)

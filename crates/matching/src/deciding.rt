@@ -34,7 +34,7 @@ pub fn is_instance(left: &RuleSide, formula: &Formula) -> bool
 }
 
 // Whether the left side is a variant of the formula: each is general for the other.
-#[tactic(auto, using(crate::proofs::Relating::variants))]
+#[tactic(auto, using(crate::proofs::Relating::variant_general))]
 pub fn is_variant(left: &RuleSide, formula: &Formula) -> bool
     ensures { Decides result (Variant (row (row_words left.now)) (row (row_words formula.now))) }
 {

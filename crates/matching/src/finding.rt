@@ -83,7 +83,7 @@ fn bound<'a>(pattern: &[u32], v: u32, target: &'a [u32]) -> Option<Found<'a>>
 }
 
 // The binding of the asked variable in checked rows, if the asked relation holds: a part of the rows as they came.
-#[tactic(auto, using(crate::proofs::Relating::variants))]
+#[tactic(auto, using(crate::proofs::Relating::variant_general))]
 fn find<'a>(
     asked: Asked,
     pair: &CheckedPair,
