@@ -50,6 +50,7 @@ impl Form {
     }
 }
 
+// Where a variable stands among those met.
 fn place_among(met: &[u32], variable: u32) -> Option<usize>
     ensures { result ≡ position (λ w. w == variable) met.now }
 {

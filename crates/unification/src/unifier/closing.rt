@@ -48,8 +48,8 @@ impl Unifier<'_> {
                 }
             }
         }
-        let k = self.end(i);
-        let l = self.end(j);
-        self.unify_rows(k, l, n - 1)
+        let after_i = self.end(i);
+        let after_j = self.end(j);
+        self.unify_rows(after_i, after_j, n - 1)
     }
 }

@@ -40,6 +40,7 @@ impl<'a> Unifier<'a> {
         at
     }
 
+    // The cell at a place: a variable's own word, or what stands at the position.
     fn cell(&self, place: u32) -> u32
         requires { is_var place ≡ false → place < size_of self.now }
         ensures { result ≡ cell_at self.now.cells.now place }

@@ -9,7 +9,7 @@ use crate::form::Form;
 use cells::{VARIABLE, arity_of};
 
 impl Unifier<'_> {
-    // Adds the n rows that begin at i to the form, or nothing that counts where it passes 256 cells or 64 variables.
+    // Adds the n rows that begin at i to the form; none where it would pass 256 cells or 64 variables.
     pub(super) fn write_rows(&self, form: &mut Form, i: u32, n: usize) -> Option<()>
         requires { Has n (drop i self.now.cells.now) }
         ensures { Wrote (graph_of self.now) (links_of self.now)
