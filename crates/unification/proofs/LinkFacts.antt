@@ -1,6 +1,6 @@
 -- Links, and what a replacement that satisfies them makes of places. Assumes nothing.
-use Rattle.std.proofs.Common.{◌≡◌, ℕ, ◌+◌, ◌<◌, Bool, true, false, cond, eqb, ◌≢◌, ◌⊎◌, List, [], ◌∷◌, ◌++◌, length, get_or, take, sym, refl, ap, ◌∙◌, subst, inl, inr, add-one, arith, take-suc}
-use Rattle.std.proofs.lemmas.Bool.{eq-eqb, ne_eqb, eqb-true}
+use Rattle.std.proofs.Common.{◌≡◌, ℕ, Bool, true, false, cond, eqb, ◌≢◌, ◌⊎◌, List, [], ◌∷◌, ◌++◌, length, sym, refl, ap, ◌∙◌, subst, inl, inr, arith}
+use Rattle.std.proofs.lemmas.Bool.{ne_eqb, eqb-true}
 use Rattle.unification.specs.Rows.{put}
 use Rattle.unification.specs.Graph.{Graph, Laws, flat, Links, follow, find, Pairs, canon, norm, Joined, val, Sat, Closed}
 
@@ -112,14 +112,6 @@ module _ (G : Graph) where
 
     pub norm_val : (σ : ℕ → List ℕ) (L : Links) (p : ℕ) → Sat G σ L → val G σ p ≡ val G σ (norm G L p)
     norm_val σ L p h = ap (put G.is_v σ) (term_canon p) ∙ find_val σ L (canon G p) h
-
--- one entry of the list more
-pub find_take : (items : List (ℕ × ℕ)) (i a : ℕ) → i < length items → find (take (i + 1) items) a ≡ follow (get_or items i (0, 0)) (find (take i items) a)
-find_take items i a h =
-    ap (λ n. find (take n items) a) (add-one i) ∙ ap (λ L. find L a) (take-suc items i (0, 0) h) ∙ find_append (take i items) (get_or items i (0, 0) ∷ []) a
-
-pub follow_hit : (l : ℕ × ℕ) (a : ℕ) → l.0 ≡ a → follow l a ≡ l.1
-follow_hit l a e = ap (λ b. cond b l.1 a) (eq-eqb a l.0 (sym e))
 
 pub follow_miss : (l : ℕ × ℕ) (a : ℕ) → l.0 ≢ a → follow l a ≡ a
 follow_miss l a ne = ap (λ b. cond b l.1 a) (ne_eqb a l.0 (λ e. ne (sym e)))

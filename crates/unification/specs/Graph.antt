@@ -1,6 +1,6 @@
 -- Terms that share a memory: each place has a cell, the places of its arguments and the row that stands there.
 -- A variable's own cell is a place too. A list of links says which places were made one. Assumes nothing.
-use Rattle.std.specs.Prelude.{◌≡◌, ℕ, Bool, true, false, cond, ◌⊎◌, List, [], ◌∷◌, ◌++◌, length, ◌==◌}
+use Rattle.std.specs.Prelude.{◌≡◌, ℕ, Bool, true, false, cond, ◌⊎◌, List, [], ◌∷◌, ◌++◌, length, ◌==◌, fold}
 use Rattle.unification.specs.Rows.{Wholes, put, Leafy}
 
 abbrev pub flat : (ℕ → List ℕ) → List ℕ → List ℕ
@@ -30,8 +30,7 @@ follow l a = cond (a == l.0) l.1 a
 
 -- the place that stands for the place a: each link in turn
 abbrev pub find : Links → ℕ → ℕ
-find [] a = a
-find (l ∷ L) a = find L (follow l a)
+find L a = fold (λ at l. follow l at) a L
 
 abbrev pub Pairs : (ℕ → ℕ → Type 0) → List ℕ → List ℕ → Type 0
 Pairs R [] [] = Unit {0}

@@ -31,13 +31,10 @@ impl<'a> Unifier<'a> {
     fn root(&self, place: u32) -> u32
         ensures { result ≡ find (links_of self.now) place }
     {
-        let mut at = place;
-        for (from, to) in self.links.as_slice() {
-            if *from == at {
-                at = *to;
-            }
-        }
-        at
+        self.links
+            .as_slice()
+            .iter()
+            .fold(place, |at, (from, to)| if at == *from { *to } else { at })
     }
 
     // The cell at a place: a variable's own word, or what stands at the position.
