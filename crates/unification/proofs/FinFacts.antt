@@ -1,5 +1,6 @@
 -- The ways through one place of the walk. Assumes nothing.
 use Rattle.std.proofs.Common.{◌≡◌, ℕ, zero, suc, ◌<◌, ◌≤◌, Bool, true, false, ◌⊎◌, List, [], ◌∷◌, ◌++◌, length, replicate, set, sym, refl, ap, ◌∙◌, subst, inl, inr, le_refl, arith, get_or-set_other, get_or-set_same}
+use Rattle.std.proofs.lemmas.List.Sums.{sum_by-set}
 use Rattle.std.proofs.lemmas.Bool.{cases_eq}
 use Rattle.unification.specs.Graph.{Graph, Laws, Links, norm, val, Sols}
 use Rattle.unification.specs.Graph.Sols.{none, more}
@@ -9,17 +10,6 @@ use Rattle.unification.specs.Finite.{newness, fresh, mark_at, Above, Ended, Fin}
 use Rattle.unification.proofs.LinkFacts.{norm_val, kids_none}
 use Rattle.unification.proofs.StepFacts.{val_sym, in_flat}
 use Rattle.unification.proofs.OutFacts.{true_not}
-
--- a mark that is no longer new
-pub fresh_set : (ms : List Mark) (i : ℕ) (v : Mark) → newness v ≡ 0 → fresh (set ms i v) ≤ fresh ms
-fresh_set [] i v e = le_refl 0
-fresh_set (m ∷ ms) zero v e = omega arith
-fresh_set (m ∷ ms) (suc i) v e = omega (arith, fresh_set ms i v e)
-
-pub fresh_falls : (ms : List Mark) (i : ℕ) (v : Mark) → newness v ≡ 0 → i < length ms → mark_at ms i ≡ New → fresh (set ms i v) < fresh ms
-fresh_falls [] i v e h n = let z : ⊥ = omega arith in absurd z
-fresh_falls (m ∷ ms) zero v e h n = omega (arith, ap newness n)
-fresh_falls (m ∷ ms) (suc i) v e h n = let k : i < length ms = omega arith in omega (arith, fresh_falls ms i v e k n)
 
 all_new : (n o : ℕ) → mark_at (replicate n New) o ≡ New
 all_new zero o = refl
@@ -114,7 +104,7 @@ module _ (G : Graph) (W : Laws G) (L : Links) where
 
       pub down_no : (after : List Mark) (ps : List ℕ) → Fin G L (set marks x Open) after (G.kids x) false → Fin G L marks after (i ∷ ps) false
       down_no after ps F = record {
-        fewer = omega (arith, F.fewer, fresh_set marks x Open refl);
+        fewer = omega (arith, F.fewer, sum_by-set newness marks x Open New low);
         opened = λ e. true_not e refl;
         done = λ e. true_not e refl;
         rows = λ e. true_not e refl;
@@ -123,7 +113,7 @@ module _ (G : Graph) (W : Laws G) (L : Links) where
 
       pub down_past : (after : List Mark) → length after ≡ length marks → Fin G L (set marks x Open) after (G.kids x) true → Past marks (set after x Done) x
       down_past after len F = record {
-        fewer = omega (arith, F.fewer, fresh_set marks x Open refl, fresh_set after x Done refl);
+        fewer = omega (arith, F.fewer, sum_by-set newness marks x Open New low, sum_by-set newness after x Done New (omega arith));
         opened = λ o h. was o h (cases_eq o x);
         done = λ o h. has o h (cases_eq o x);
         first = F.rows refl;

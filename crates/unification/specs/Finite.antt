@@ -1,5 +1,5 @@
 -- What a walk down the links answers: a row for each place, or that no replacement satisfies the links. Assumes nothing.
-use Rattle.std.specs.Prelude.{◌≡◌, ℕ, ◌+◌, ◌<◌, ◌≤◌, Bool, true, false, List, [], ◌∷◌, length, slice_index_or}
+use Rattle.std.specs.Prelude.{◌≡◌, ℕ, ◌<◌, ◌≤◌, Bool, true, false, List, length, slice_index_or, sum_by}
 use Rattle.unification.specs.declared.unifier.walking.Mark.{Mark}
 use Rattle.unification.specs.declared.unifier.walking.Mark.TheVariants.{New, Open, Done}
 use Rattle.unification.specs.Graph.{Graph, Links, In, val, Sat, Sols}
@@ -11,8 +11,7 @@ newness Done = 0
 
 -- how many places are not yet met
 abbrev pub fresh : List Mark → ℕ
-fresh [] = 0
-fresh (m ∷ ms) = newness m + fresh ms
+fresh marks = sum_by newness marks
 
 abbrev pub mark_at : List Mark → ℕ → Mark
 mark_at marks o = slice_index_or marks o New

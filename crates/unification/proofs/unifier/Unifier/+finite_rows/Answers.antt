@@ -1,10 +1,11 @@
-use Rattle.std.proofs.Common.{◌≡◌, ℕ, ◌+◌, ◌-◌, ◌<◌, true, false, length, drop, set, sym, refl, ap, ◌∙◌, subst, arith, length-set}
-use Rattle.unification.specs.declared.unifier.walking.Mark.TheVariants.{Open}
+use Rattle.std.proofs.Common.{◌≡◌, ℕ, ◌+◌, ◌-◌, ◌<◌, true, false, length, drop, set, sym, ap, ◌∙◌, subst, arith, length-set}
+use Rattle.std.proofs.lemmas.List.Sums.{sum_by-set}
+use Rattle.unification.specs.declared.unifier.walking.Mark.TheVariants.{New, Open}
 use Rattle.unification.specs.Memory.{Has, need, size, binds, cell_at, kids_at, places_from}
-use Rattle.unification.specs.Finite.{Above, Fin}
+use Rattle.unification.specs.Finite.{newness, Above, Fin}
 use Rattle.unification.specs.Unifiers.{graph_of}
 use Rattle.unification.proofs.DownFacts.{law_of, rest_has, places_first, places_cons, kids_has, need_of, need_small}
-use Rattle.unification.proofs.FinFacts.{Past, fin_none, fin_cycle, fresh_falls, down_open, down_done, down_no, down_past, past_var, past_done, past_open, past_fin}
+use Rattle.unification.proofs.FinFacts.{Past, fin_none, fin_cycle, down_open, down_done, down_no, down_past, past_var, past_done, past_open, past_fin}
 use Rattle.unification.proofs.unifier.Unifier.+finite_rows.Goals as goal
 use Rattle.unification.proofs.unifier.Unifier.+finite_rows.Goals.{then-not-binds+in-New+else-not-finite_rows, then-not-binds+in-Done, else-not-binds, After-end}
 
@@ -45,8 +46,8 @@ finite_rows-requires t c =
     let sx : binds u.kinds (cell_at mem x) ≡ false = ap (binds u.kinds) (sym c.head-x.ensures.cell) ∙ sym c.if-not-binds.ensures in
     let em = need_of mem x c.head-x.result.1 c.arity_of.result (omega arith) c.head-x.ensures.cell c.arity_of.ensures in
     let small = need_small c.head-x.result.1 (omega arith) in
-    let z = fresh_falls marks x Open refl lm c.in-New.is in (
-      omega (arith, c.decreases, em, ap need c.head-x.ensures.cell),
+    let z = sum_by-set newness marks x Open New lm in (
+      omega (arith, c.decreases, em, ap need c.head-x.ensures.cell, ap newness c.in-New.is),
       (
         subst (λ k. Has k (drop (x + 1) mem)) (sym em) (kids_has mem u.memory u.kinds x low),
         (
