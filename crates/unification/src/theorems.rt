@@ -5,6 +5,6 @@ ghost use Rattle.unification.specs.FormsOfRows.{OneRowsFormAnswer};
 
 pub fn unification_laws()
     ensures forms { UnificationLaws }
-    ensures form_answer { OneFormAnswer }
-    ensures rows_form_answer { OneRowsFormAnswer }
+    ensures form_answer { OneRowsFormAnswer }
+    ensures checked_form_answer { OneFormAnswer }
 {}

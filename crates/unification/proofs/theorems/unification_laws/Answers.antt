@@ -3,4 +3,4 @@ use Rattle.unification.proofs.AnswerFacts.{one_form_answer, one_rows_form_answer
 use Rattle.unification.proofs.theorems.unification_laws.Goals as goal
 
 pub returns : goal.returns
-returns c = record { forms = record { exists = common_exists }; form_answer = one_form_answer; rows_form_answer = one_rows_form_answer }
+returns c = record { forms = record { exists = common_exists }; form_answer = one_rows_form_answer; checked_form_answer = one_form_answer }
