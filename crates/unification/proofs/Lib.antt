@@ -6,6 +6,7 @@ pub mod MemFacts
 pub mod FitFacts
 pub mod OutFacts
 pub mod DownFacts
+pub mod EndFacts
 pub mod FinFacts
 pub mod SolveFacts
 pub mod WriteFacts

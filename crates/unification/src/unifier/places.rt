@@ -2,14 +2,14 @@
 ghost use Rattle.std.specs.Prelude.{◌≡◌, ◌+◌, ◌<◌, ◌≤◌, false, [], length, drop};
 ghost use Rattle.unification.specs.Graph.{find, norm};
 ghost use Rattle.unification.specs.Codes.{is_var};
-ghost use Rattle.unification.specs.Memory.{binds, size, cell_at, Memory};
+ghost use Rattle.unification.specs.Memory.{binds, size, Has, cell_at, Memory};
 ghost use Rattle.unification.specs.Close.{Place};
 ghost use Rattle.unification.specs.Unifiers.{graph_of, size_of, links_of, Root};
 
 use super::Unifier;
 use crate::kinds::Kinds;
 use arrayvec::ArrayVec;
-use cells::{VARIABLE, arity_of};
+use cells::{VARIABLE, term_end};
 
 impl<'a> Unifier<'a> {
     // No two places are one yet.
@@ -83,12 +83,16 @@ impl<'a> Unifier<'a> {
         ensures end { result ≡ at + size 1 (drop at self.now.cells.now) }
         ensures within { result ≤ size_of self.now }
     {
-        let mut left = 1;
-        let mut end = at;
-        while left > 0 {
-            left = left - 1 + arity_of(self.cells[end as usize]);
-            end += 1;
-        }
-        end
+        end_at(self.cells, at as usize) as u32
     }
+}
+
+// A row begins there, so `term_end` finds its end.
+fn end_at(cells: &[u32], at: usize) -> usize
+    requires low { at < length cells.now }
+    requires row { Has 1 (drop at cells.now) }
+    ensures end { result ≡ at + size 1 (drop at cells.now) }
+    ensures within { result ≤ length cells.now }
+{
+    term_end(cells, at).unwrap()
 }
