@@ -23,11 +23,11 @@ pub fn term_end(cells: &[u32], at: usize) -> Option<usize>
     let mut need = 1;
     for (i, w) in rest.iter().enumerate() {
         need = need - 1 + arity_of(*w);
-        if need == 0 {
-            return Some(at + i + 1);
-        }
         if need > rest.len() - (i + 1) {
             return None;
+        }
+        if need == 0 {
+            return Some(at + i + 1);
         }
     }
     None

@@ -1,5 +1,6 @@
 // The relations of a left side to a formula, by name.
 ghost use Rattle.std.specs.Prelude.{Some};
+ghost use Rattle.std.specs.Fmt.{padded};
 ghost use Rattle.matching.specs.Named.{relation_name, IsNamed};
 
 use std::fmt;
@@ -36,8 +37,10 @@ impl FromStr for Relation {
 impl fmt::Display for Relation {
     ghost output = { λ r. Some (relation_name r) };
 
+    ghost styled_output = { λ r spec. Some (padded spec (relation_name r)) };
+
     fn fmt<W: fmt::Write>(&self, f: &mut fmt::Formatter<W>) -> fmt::Result {
-        f.write_str(match self {
+        f.pad(match self {
             Relation::General => "general",
             Relation::Instance => "instance",
             Relation::Variant => "variant",

@@ -2,6 +2,7 @@
 #![tactic(auto)]
 
 ghost use Rattle.std.specs.Prelude.{◌≡◌, Some};
+ghost use Rattle.std.specs.Fmt.{padded};
 ghost use Rattle.refusals.specs.Refusals.{refusal, cell_refusal, rule_refusal, number_refusal, side_of, layer_name, side_name, refusal_text};
 ghost use Rattle.refusals.specs.declared.RuleFault.TheVariants.{Cells};
 
@@ -130,26 +131,38 @@ impl RuleFault {
     }
 }
 
-impl fmt::Display for Layer {
-    ghost output = { λ l. Some (layer_name l) };
-
-    fn fmt<W: fmt::Write>(&self, f: &mut fmt::Formatter<W>) -> fmt::Result {
-        f.write_str(match self {
+impl Layer {
+    pub fn name(self) -> &'static str
+        ensures { result.now ≡ layer_name self }
+    {
+        match self {
             Layer::Buffers => "buffers",
             Layer::File => "file",
             Layer::Cells => "cells",
             Layer::Rule => "rule",
             Layer::Book => "book",
             Layer::CommonForm => "common form",
-        })
+        }
+    }
+}
+
+impl fmt::Display for Layer {
+    ghost output = { λ l. Some (layer_name l) };
+
+    ghost styled_output = { λ l spec. Some (padded spec (layer_name l)) };
+
+    fn fmt<W: fmt::Write>(&self, f: &mut fmt::Formatter<W>) -> fmt::Result {
+        f.pad(self.name())
     }
 }
 
 impl fmt::Display for Side {
     ghost output = { λ s. Some (side_name s) };
 
+    ghost styled_output = { λ s spec. Some (padded spec (side_name s)) };
+
     fn fmt<W: fmt::Write>(&self, f: &mut fmt::Formatter<W>) -> fmt::Result {
-        f.write_str(match self {
+        f.pad(match self {
             Side::Left => "left",
             Side::Right => "right",
         })

@@ -60,7 +60,7 @@ impl Bindings {
 
     // One binding more, unless the list is full.
     pub fn push(&mut self, variable: u32, part: Part) -> Result<(), Full>
-        ensures room { is_ok result ≡ nat_lt (length (bindings_list self.old)) 256 }
+        ensures done { is_ok result ≡ nat_lt (length (bindings_list self.old)) 256 }
         ensures list { bindings_list self.new ≡ (if is_ok result then bindings_list self.old ++ binding variable part ∷ [] else bindings_list self.old) }
     {
         if self.len == self.items.len() {
