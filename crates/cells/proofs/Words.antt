@@ -1,9 +1,8 @@
 -- Words and the cells that they stand for. Assumes nothing.
-use Rattle.std.proofs.Common.{◌≡◌, ℕ, ◌+◌, ◌-◌, ◌*◌, ◌/◌, ◌%◌, ◌<◌, ◌≤◌, ◌&&◌, ltb, leb, ◌⊎◌, List, [], ◌∷◌, length, get_or, sym, refl, ap, ◌∙◌, inl, inr, ⊎_elim, arith}
+use Rattle.std.proofs.Common.{◌≡◌, ℕ, ◌+◌, ◌-◌, ◌*◌, ◌/◌, ◌%◌, ◌<◌, ◌≤◌, ◌&&◌, ltb, leb, ◌⊎◌, List, [], ◌∷◌, refl, ap, ◌∙◌, inl, inr, ⊎_elim, arith}
 use Rattle.std.proofs.lemmas.Nat.{div-mul-add, mod-mul-add, div-add-mod', div_below, mod_below}
-use Rattle.std.proofs.lemmas.Bool.{or_cases, or_left, or_right, and_parts, and_from, ltb-true, leb-true, le-leb, lt-leb, cond-true, cond-false, lt-ltb, le-ltb, cases_lt}
+use Rattle.std.proofs.lemmas.Bool.{or_cases, or_left, or_right, and_parts, and_from, ltb-true, leb-true, le-leb, cond-true, cond-false, lt-ltb, le-ltb, cases_lt}
 use Rattle.cells.specs.Cells.{Cell, symbol, variable, cell, word, row, words, Limited, IsCell, WordLaws}
-use Rattle.cells.specs.Rules.{bare}
 
 pub cell_symbol : (w : ℕ) → w < 2147483648 → cell w ≡ symbol (w / 65536) (w % 65536)
 cell_symbol w h = cond-true (ltb w 2147483648) _ _ (lt-ltb w 2147483648 h)
@@ -54,12 +53,3 @@ there (variable v) l = cell_variable (2147483648 + v) (omega arith) ∙ ap varia
 
 pub word_laws : WordLaws
 word_laws = record { limited = limited; accepted = accepted; there = there; back = word_cell }
-
--- what the first word says of a row
-pub bare_row : (ws : List ℕ) → 0 < length ws → leb 2147483648 (get_or ws 0 0) ≡ bare (row ws)
-bare_row [] h = absurd (omega arith)
-bare_row (w ∷ ws) h =
-    ⊎_elim
-    (λ small. lt-leb 2147483648 w small ∙ ap (λ c. bare (c ∷ row ws)) (sym (cell_symbol w small)))
-    (λ big. le-leb 2147483648 w big ∙ ap (λ c. bare (c ∷ row ws)) (sym (cell_variable w big)))
-    (cases_lt w 2147483648)

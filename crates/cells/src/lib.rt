@@ -11,6 +11,7 @@ mod theorems;
 mod word;
 
 pub use check::{check_row, term_end};
+pub use names::place_of;
 pub use row::{Formula, Row, RuleSide};
 pub use rule::Rule;
 pub use side::check_left;

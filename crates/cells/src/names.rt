@@ -1,5 +1,5 @@
 // The variables of rows, by first occurrence.
-ghost use Rattle.std.specs.Prelude.{◌≡◌, length, position};
+ghost use Rattle.std.specs.Prelude.{◌≡◌, ◌==◌, length, position};
 ghost use Rattle.cells.specs.Cells.{row};
 ghost use Rattle.cells.specs.Variables.{lacking, variables};
 ghost use Rattle.cells.specs.Records.{row_words};
@@ -7,6 +7,13 @@ ghost use Rattle.cells.specs.Records.{row_words};
 use crate::row::Row;
 use crate::word::VARIABLE;
 use arrayvec::ArrayVec;
+
+// Where v stands in the list.
+pub fn place_of(list: &[u32], v: u32) -> Option<usize>
+    ensures { result ≡ position (λ u. u == v) list.now }
+{
+    list.iter().position(|u| *u == v)
+}
 
 // Whether the word is a variable that the list lacks.
 fn lacks(names: &[u32], w: u32) -> bool

@@ -1,22 +1,17 @@
 // Renaming the variables of a rule's side.
-ghost use Rattle.std.specs.Prelude.{◌≡◌, ◌≤◌, ◌==◌, map, length, position};
+ghost use Rattle.std.specs.Prelude.{◌≡◌, ◌≤◌, map, length};
 ghost use Rattle.cells.specs.Cells.{row, words};
 ghost use Rattle.cells.specs.Substitutions.{rename};
 ghost use Rattle.cells.specs.Variables.{index, renamed_word};
 ghost use Rattle.cells.specs.Records.{row_words};
 
 use super::{Row, RuleSide};
+use crate::names::place_of;
 use crate::word::VARIABLE;
 use arrayvec::ArrayVec;
 
-// Where v stands in the list.
-fn place_of(list: &[u32], v: u32) -> Option<usize>
-    ensures { result ≡ position (λ u. u == v) list.now }
-{
-    list.iter().position(|u| *u == v)
-}
-
 // A variable by its place in the list.
+#[tactic(auto, using(crate::proofs::Listing::index_position, crate::proofs::Listing::index_le))]
 fn rename_word(w: u32, list: &[u32]) -> u32
     requires { length list.now ≤ 60 }
     ensures { result ≡ renamed_word (index list.now) w }
