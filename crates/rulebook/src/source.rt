@@ -2,14 +2,14 @@
 use std::error::Error;
 use std::{env, fmt, fs, io};
 
-#[derive(Drop)]
+#[derive(Debug, Drop)]
 pub enum Source {
     StandardInput,
     File(String),
 }
 
 // A source that cannot be read.
-#[derive(Drop)]
+#[derive(Debug, Drop)]
 pub struct Unreadable {
     source: Source,
     error: io::Error,
@@ -29,13 +29,6 @@ impl fmt::Display for Unreadable {
         let source = &self.source;
         let error = &self.error;
         write!(f, "cannot read {source}: {error}")
-    }
-}
-
-// The error that `main` returns is printed by `Debug`.
-impl fmt::Debug for Unreadable {
-    fn fmt<W: fmt::Write>(&self, f: &mut fmt::Formatter<W>) -> fmt::Result {
-        write!(f, "{self}")
     }
 }
 
