@@ -6,7 +6,7 @@ ghost use Rattle.cells.specs.Rows.{Whole};
 use crate::check::check_row;
 use refusals::CellFault;
 
-// A whole row of at most N cells. Only the check makes one, so nothing above tests these lines again.
+// A whole row of at most N cells. Only the check makes one, so nothing above checks it again.
 #[derive(Clone, Copy, Drop)]
 pub struct Row<const N: usize> {
     cells: [u32; N],

@@ -108,7 +108,34 @@ fn random_overlap(
 ) -> Result<Vec<u32>, AllocError> {
     let mut cells = Vec::new(heap);
     for (i, &cell) in row.iter().enumerate() {
-        let (left, mut formula) = match numbers.below(4) {
+        let kind = numbers.below(4);
+        let variable = VARIABLE + numbers.below(VARIABLES);
+        if i == 0 || arity(cell) > 0 || kind == 0 {
+            cells.push(cell)?;
+        } else if kind == 1 {
+            cells.extend_from_slice(&[ARGUMENT, variable])?;
+        } else {
+            cells.push(variable)?;
+        }
+    }
+    Ok(cells)
+}
+
+// Puts another cell for a constant or a variable, now and then.
+fn spoil(row: &mut Vec<u32>, numbers: &mut Numbers) {
+    let at = numbers.below(2 * ROW) as usize;
+    let other = random_cell(numbers, 0);
+    if let Some(cell) = row.get_mut(at)
+        && arity(*cell) == 0
+    {
+        *cell = other;
+    }
+}
+
+// A pair by chance, or one made so that a relation holds. The formula of either may then be spoiled.
+pub fn random_pair(heap: Global, numbers: &mut Numbers) -> Result<Pair, AllocError> {
+    let side = random_side(heap, numbers)?;
+    let (left, mut formula) = match numbers.below(4) {
         0 => (side, random_row(heap, numbers.below(ROW), numbers)?),
         1 => {
             let instance = random_instance(heap, side.as_slice(), numbers)?;
