@@ -1,7 +1,7 @@
 -- What is written is the most general common row. Assumes nothing.
-use Rattle.std.proofs.Common.{◌≡◌, ℕ, ◌≤◌, true, List, [], ◌∷◌, ◌++◌, length, Some, None, Ok, Err, sym, refl, ap, ap₂, ◌∙◌, subst, subst₂, le_refl}
-use Rattle.unification.specs.declared.fault.FormFault.TheVariants.{TooLarge}
+use Rattle.std.proofs.Common.{◌≡◌, ℕ, ◌≤◌, true, List, [], ◌∷◌, ◌++◌, length, Some, Ok, Err, sym, refl, ap, ap₂, ◌∙◌, subst, subst₂, le_refl}
 use Rattle.unification.specs.declared.form.Form.{Form}
+use Rattle.unification.specs.declared.form.TooLarge.{TooLarge}
 use Rattle.unification.specs.Graph.{Graph, Laws, Links, Sols, Made, norm, val, Closed, Sol}
 use Rattle.unification.specs.Graph.Sols.{none, more}
 use Rattle.unification.specs.Close.{Out, General, Solved}
@@ -52,7 +52,7 @@ module _ (G : Graph) (W : Laws G) (p q : ℕ) (L : Links) where
         few = subst (λ x. length x ≤ 64) names new.few;
       }
 
-  pub form_over : Out G [] L (p ∷ []) (q ∷ []) true → Solved G L → (old new : Form) → old.cells.items ≡ [] → old.names.items ≡ [] → Wrote G L (p ∷ []) old new None → Common G p q (Err TooLarge)
-  form_over O S old new c m R =
+  pub form_over : (e e' : TooLarge) → Out G [] L (p ∷ []) (q ∷ []) true → Solved G L → (old new : Form) → old.cells.items ≡ [] → old.names.items ≡ [] → Wrote G L (p ∷ []) old new (Err e) → Common G p q (Err e')
+  form_over e e' O S old new c m R =
       let (g, here, made) = found O S in
       record { g = g; made = made; over = subst₂ (λ x y. Over G.is_v x y (val G g.σ p)) c m (R (val G g.σ p) here) }

@@ -7,9 +7,8 @@ use Rattle.cells.specs.Rows.{Whole}
 use Rattle.cells.specs.Records.{row_words}
 use Rattle.cells.specs.declared.row.Row.{Row}
 use Rattle.matching.specs.Relations.{Unifiable, Common}
-use Rattle.unification.specs.declared.fault.FormFault.{FormFault}
-use Rattle.unification.specs.declared.fault.FormFault.TheVariants.{ShortBuffer, Rows, TooLarge}
 use Rattle.unification.specs.declared.form.Form.{Form}
+use Rattle.unification.specs.declared.form.TooLarge.{TooLarge}
 use Rattle.unification.specs.declared.kinds.Kinds.{Kinds}
 use Rattle.unification.specs.Codes.{tagged, code}
 use Rattle.unification.specs.Rows.{put}
@@ -45,7 +44,7 @@ module _ (l f : List ℕ) (p : AllCells l) (q : AllCells f) (u : Whole (row l)) 
         ∙ ap (put bound τ) one)
         (subst (λ x. AllPlain (put bound g.σ x)) one m))
 
-  pub formed : (r : Result (Option Form) FormFault) → number.Common (over all_kinds (map (tagged 0x90000000) (row l) ++ f)) 0 (length (map (tagged 0x90000000) (row l))) r
+  pub formed : (r : Result (Option Form) TooLarge) → number.Common (over all_kinds (map (tagged 0x90000000) (row l) ++ f)) 0 (length (map (tagged 0x90000000) (row l))) r
       → Formed (row l) (row f) r
   formed (Ok None) C = λ (σ, τ, c, a, b).
       C (joint σ τ) (λ x k. joint_whole σ τ a.whole b.whole x)
@@ -62,7 +61,7 @@ module _ (l f : List ℕ) (p : AllCells l) (q : AllCells f) (u : Whole (row l)) 
         record { common = common_of C.g m; long = ap length text ∙ length-map (form_of R) word; within = C.within; few = subst (λ n. n ≤ 64) (form_variables R m) C.few },
         text,
       )
-  formed (Err TooLarge) C =
+  formed (Err e) C =
       let R = val (over all_kinds (map (tagged 0x90000000) (row l) ++ f)) C.g.σ 0 in
       let m = made_plain (map (tagged 0x90000000) (row l) ++ f) (plain_memory l f p q) R C.made in (
         form_of R,
@@ -71,8 +70,6 @@ module _ (l f : List ℕ) (p : AllCells l) (q : AllCells f) (u : Whole (row l)) 
           over = ⊎_elim (λ x. inl (omega (arith, form_length R m))) (λ x. inr (subst (λ n. 64 < n) (form_variables R m) x)) C.over;
         },
       )
-  formed (Err (ShortBuffer n)) C = absurd C
-  formed (Err (Rows e)) C = absurd C
 
 -- in a memory that holds the two
 module _ (l f mem : List ℕ) (e : mem ≡ map (tagged 0x90000000) (row l) ++ f) (p : AllCells l) (q : AllCells f) (u : Whole (row l)) (v : Whole (row f)) (h : length mem < 0x80000000) where
@@ -82,7 +79,7 @@ module _ (l f mem : List ℕ) (e : mem ≡ map (tagged 0x90000000) (row l) ++ f)
   pub memory_holds : Memory mem
   memory_holds = subst Memory (sym e) (two_rows (map (tagged 0x90000000) (row l)) f (left_wholes l p u) (right_wholes f q v) low)
 
-  pub memory_formed : (r : Result (Option Form) FormFault) → number.Common (over all_kinds mem) 0 (length l) r → Formed (row l) (row f) r
+  pub memory_formed : (r : Result (Option Form) TooLarge) → number.Common (over all_kinds mem) 0 (length l) r → Formed (row l) (row f) r
   memory_formed r C =
       formed l f p q u v low r
       (subst (λ m. number.Common (over all_kinds m) 0 (length (map (tagged 0x90000000) (row l))) r) e
@@ -113,7 +110,7 @@ module _ (x : Row 60) (y : Row 256) (mem : List ℕ) (e : mem ≡ map (tagged 0x
         memory_decided (row_words x) (row_words y) mem e x.good y.good x.whole y.whole short r
         (subst₂ (λ k n. Decides (over k mem) 0 n r) ek en D)
 
-    pub pair_formed : (r : Result (Option Form) FormFault) → number.Common (over kinds mem) 0 n r → Formed (row (row_words x)) (row (row_words y)) r
+    pub pair_formed : (r : Result (Option Form) TooLarge) → number.Common (over kinds mem) 0 n r → Formed (row (row_words x)) (row (row_words y)) r
     pair_formed r C =
         memory_formed (row_words x) (row_words y) mem e x.good y.good x.whole y.whole short r
         (subst₂ (λ k n. number.Common (over k mem) 0 n r) ek en C)

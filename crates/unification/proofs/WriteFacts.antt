@@ -1,6 +1,7 @@
 -- The ways through one row that is written. Assumes nothing.
-use Rattle.std.proofs.Common.{◌≡◌, ℕ, suc, ◌+◌, ◌<◌, ◌≤◌, Bool, true, false, cond, ltb, List, [], ◌∷◌, Some, None, Option, ◌++◌, length, sym, refl, ap, ◌∙◌, subst, ap₂, inl, inr, append_assoc, append-nil, le_refl, arith, length-append}
+use Rattle.std.proofs.Common.{◌≡◌, ℕ, suc, ◌+◌, ◌<◌, ◌≤◌, Bool, true, false, cond, ltb, List, [], ◌∷◌, Ok, Err, Result, ◌++◌, length, sym, refl, ap, ◌∙◌, subst, ap₂, inl, inr, append_assoc, append-nil, le_refl, arith, length-append}
 use Rattle.unification.specs.declared.form.Form.{Form}
+use Rattle.unification.specs.declared.form.TooLarge.{TooLarge}
 use Rattle.unification.specs.Graph.{Graph, Laws, Links, norm, Sols}
 use Rattle.unification.specs.Graph.Sols.{none, more}
 use Rattle.cells.specs.Variables.{index, include}
@@ -34,7 +35,7 @@ module _ (is_v : ℕ → Bool) where
   after_le ms (c ∷ a) = omega (arith, met_le ms c (is_v c), after_le (met is_v ms c) a)
 
 module _ (G : Graph) (W : Laws G) (L : Links) where
-  pub w_none : (form : Form) → Wrote G L [] form form (Some tt)
+  pub w_none : (form : Form) → Wrote G L [] form form (Ok tt)
   w_none form = record { row = []; sols = none; text = sym (append-nil form.cells.items); names = refl }
 
   module _ (i x : ℕ) (ix : x ≡ norm G L i) (old : Form) where
@@ -43,8 +44,8 @@ module _ (G : Graph) (W : Laws G) (L : Links) where
     first_row (more {a = a} {b = b} s t) =
         (a, b, subst (λ n. Sols G L (G.kids n) a) (sym ix) s, t, ap {B = List ℕ} (λ n. G.cell n ∷ (a ++ b)) (sym ix))
 
-    pub w_names : (ps : List ℕ) (new : Form) → G.is_v (G.cell x) ≡ true → 64 < length (include old.names.items (G.cell x)) → Wrote G L (i ∷ ps) old new None
-    w_names ps new v h row s =
+    pub w_names : (ps : List ℕ) (new : Form) (e : TooLarge) → G.is_v (G.cell x) ≡ true → 64 < length (include old.names.items (G.cell x)) → Wrote G L (i ∷ ps) old new (Err e)
+    w_names ps new e v h row s =
         let ms = old.names.items in
         let r = first_row s in
         let m : met G.is_v ms (G.cell x) ≡ include ms (G.cell x) = ap (λ b. cond b (include ms (G.cell x)) ms) v in
@@ -59,8 +60,8 @@ module _ (G : Graph) (W : Laws G) (L : Links) where
       pub text : mid.cells.items ≡ old.cells.items ++ number G.is_v old.names.items (G.cell x ∷ row)
       pub names : mid.names.items ≡ after G.is_v old.names.items (G.cell x ∷ row)
 
-    pub first_then : (ps : List ℕ) (mid new : Form) (r : Option (Unit {0})) → First mid → Wrote G L ps mid new r → Wrote G L (i ∷ ps) old new r
-    first_then ps mid new (Some u) F R =
+    pub first_then : (ps : List ℕ) (mid new : Form) (r : Result (Unit {0}) TooLarge) → First mid → Wrote G L ps mid new r → Wrote G L (i ∷ ps) old new r
+    first_then ps mid new (Ok u) F R =
         let ms = old.names.items in
         let out = old.cells.items in
         let a = F.row in
@@ -76,7 +77,7 @@ module _ (G : Graph) (W : Laws G) (L : Links) where
               ∙ ap (λ u. out ++ u) (sym (number_append G.is_v ms (c ∷ a) b)));
           names = subst (λ n. new.names.items ≡ after G.is_v ms (G.cell n ∷ (a ++ b))) ix (R.names ∙ ap (λ v. after G.is_v v b) F.names ∙ sym (after_append G.is_v ms (c ∷ a) b));
         }
-    first_then ps mid new None F R = λ row s.
+    first_then ps mid new (Err e) F R = λ row s.
         let t = first_row s in
         let a = F.row in
         let c = G.cell x in
@@ -117,8 +118,8 @@ module _ (G : Graph) (W : Laws G) (L : Links) where
         names = R.names ∙ ap (λ z. after G.is_v z R.row) (sym same);
       }
 
-      pub w_down : (ps : List ℕ) (new : Form) → Wrote G L (G.kids x) one mid None → Wrote G L (i ∷ ps) old new None
-      w_down ps new R row q = let t = first_row q in subst (Over G.is_v old.cells.items old.names.items) (sym t.4) (widen t.0 t.1 (R t.0 t.2))
+      pub w_down : (ps : List ℕ) (new : Form) (e e' : TooLarge) → Wrote G L (G.kids x) one mid (Err e) → Wrote G L (i ∷ ps) old new (Err e')
+      w_down ps new e e' R row q = let t = first_row q in subst (Over G.is_v old.cells.items old.names.items) (sym t.4) (widen t.0 t.1 (R t.0 t.2))
         where
           widen : (a b : List ℕ) → Over G.is_v one.cells.items one.names.items a → Over G.is_v old.cells.items old.names.items (G.cell x ∷ (a ++ b))
           widen a b (inl l) = inl (omega (arith, ap length t, length-append old.cells.items (G.cell x ∷ []), length-append a b))

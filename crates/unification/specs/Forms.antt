@@ -4,6 +4,7 @@ use Rattle.cells.specs.Cells.{Cell, words}
 use Rattle.cells.specs.Variables.{variables}
 use Rattle.matching.specs.Relations.{Unifiable, Common}
 use Rattle.unification.specs.declared.form.Form.{Form}
+use Rattle.unification.specs.declared.form.TooLarge as large
 use Rattle.unification.specs.declared.fault.FormFault.{FormFault}
 use Rattle.unification.specs.declared.fault.FormFault.TheVariants.{ShortBuffer, Rows, TooLarge}
 
@@ -20,12 +21,10 @@ pub record Passing (s t c : List Cell) : Type 0 where
   pub over : (256 < length c) ⊎ (64 < length (variables c))
 
 -- the form that fits, that there is none, or that it does not fit
-abbrev pub Formed : List Cell → List Cell → Result (Option Form) FormFault → Type 0
+abbrev pub Formed : List Cell → List Cell → Result (Option Form) large.TooLarge → Type 0
 Formed s t (Ok None) = Unifiable s t → ⊥
 Formed s t (Ok (Some form)) = (c : List Cell) × Fitting s t c (length form.cells.items) × (form.cells.items ≡ words c)
-Formed s t (Err TooLarge) = (c : List Cell) × Passing s t c
-Formed s t (Err (ShortBuffer n)) = ⊥
-Formed s t (Err (Rows e)) = ⊥
+Formed s t (Err e) = (c : List Cell) × Passing s t c
 
 -- `old` is what the buffer held, and `new` what it holds then; only a form that fits is written
 abbrev pub FormAnswer : List Cell → List Cell → List ℕ → List ℕ → Result (Option ℕ) FormFault → Type 0

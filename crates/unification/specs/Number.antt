@@ -1,9 +1,8 @@
 -- Variables numbered in the order in which a row first has them. Assumes nothing.
 use Rattle.std.specs.Prelude.{◌≡◌, ℕ, ◌+◌, ◌<◌, ◌≤◌, Bool, cond, ◌⊎◌, List, [], ◌∷◌, ◌++◌, length, Some, None, Ok, Err, Option, Result}
 use Rattle.cells.specs.Variables.{index, include}
-use Rattle.unification.specs.declared.fault.FormFault.{FormFault}
-use Rattle.unification.specs.declared.fault.FormFault.TheVariants.{ShortBuffer, Rows, TooLarge}
 use Rattle.unification.specs.declared.form.Form.{Form}
+use Rattle.unification.specs.declared.form.TooLarge.{TooLarge}
 use Rattle.unification.specs.Graph.{Graph, Links, Sols, Made, val, SameVal}
 use Rattle.unification.specs.Close.{WholeFor, General}
 
@@ -31,9 +30,9 @@ pub record Written (G : Graph) (L : Links) (ps : List ℕ) (old new : Form) : Ty
   pub names : new.names.items ≡ after G.is_v old.names.items row
 
 -- or there is no room for it
-abbrev pub Wrote : Graph → Links → List ℕ → Form → Form → Option (Unit {0}) → Type 0
-Wrote G L ps old new (Some u) = Written G L ps old new
-Wrote G L ps old new None = (row : List ℕ) → Sols G L ps row → Over G.is_v old.cells.items old.names.items row
+abbrev pub Wrote : Graph → Links → List ℕ → Form → Form → Result (Unit {0}) TooLarge → Type 0
+Wrote G L ps old new (Ok u) = Written G L ps old new
+Wrote G L ps old new (Err e) = (row : List ℕ) → Sols G L ps row → Over G.is_v old.cells.items old.names.items row
 
 -- the numbered row of a most general replacement is written
 pub record Numbered (G : Graph) (p q : ℕ) (cells : List ℕ) : Type 0 where
@@ -50,9 +49,7 @@ pub record Passes (G : Graph) (p q : ℕ) : Type 0 where
   pub over : Over G.is_v [] [] (val G g.σ p)
 
 -- or no replacement makes one row of p and q
-abbrev pub Common : Graph → ℕ → ℕ → Result (Option Form) FormFault → Type 0
+abbrev pub Common : Graph → ℕ → ℕ → Result (Option Form) TooLarge → Type 0
 Common G p q (Ok None) = (σ : ℕ → List ℕ) → WholeFor G σ → SameVal G σ p q → ⊥
 Common G p q (Ok (Some form)) = Numbered G p q form.cells.items
-Common G p q (Err TooLarge) = Passes G p q
-Common G p q (Err (ShortBuffer n)) = ⊥
-Common G p q (Err (Rows e)) = ⊥
+Common G p q (Err e) = Passes G p q

@@ -1,8 +1,9 @@
 // Why no common form is written, though it was asked for.
 ghost use Rattle.std.specs.Prelude.{◌≡◌};
 ghost use Rattle.unification.specs.Refusals.{form_refusal};
-ghost use Rattle.unification.specs.declared.fault.FormFault.TheVariants.{Rows};
+ghost use Rattle.unification.specs.declared.fault.FormFault.TheVariants.{Rows, TooLarge};
 
+use crate::form;
 use matching::MatchFault;
 use refusals::{Layer, Refusal};
 
@@ -19,6 +20,14 @@ impl From<MatchFault> for FormFault {
 
     fn from(f: MatchFault) -> FormFault {
         FormFault::Rows(f)
+    }
+}
+
+impl From<form::TooLarge> for FormFault {
+    ghost from_gives = { λ _ f. f ≡ TooLarge };
+
+    fn from(_e: form::TooLarge) -> FormFault {
+        FormFault::TooLarge
     }
 }
 

@@ -7,7 +7,7 @@ ghost use Rattle.unification.specs.Forms.{Formed, FormAnswer};
 ghost use Rattle.unification.specs.FormsOfRows.{RowsFormAnswer};
 
 use crate::fault::FormFault;
-use crate::form::Form;
+use crate::form::{Form, TooLarge};
 use crate::kinds::Kinds;
 use crate::memory::joined;
 use crate::unifier::Unifier;
@@ -15,7 +15,7 @@ use cells::{Formula, RuleSide};
 use matching::check_pair;
 
 // The common form in a value of its own, so that the buffer is written only if all of it fits.
-fn form_of(left: &RuleSide, formula: &Formula) -> Result<Option<Form>, FormFault>
+fn form_of(left: &RuleSide, formula: &Formula) -> Result<Option<Form>, TooLarge>
     ensures { Formed (row (row_words left.now)) (row (row_words formula.now)) result }
 {
     let cells = joined(left, formula);

@@ -5,8 +5,7 @@ ghost use Rattle.unification.specs.Number.{Common};
 ghost use Rattle.unification.specs.Unifiers.{graph_of, size_of, links_of};
 
 use super::Unifier;
-use crate::fault::FormFault;
-use crate::form::Form;
+use crate::form::{Form, TooLarge};
 
 impl Unifier<'_> {
     // Whether some replacement of the variables that may be bound makes one row of those at p and q.
@@ -24,7 +23,7 @@ impl Unifier<'_> {
     }
 
     // The common form of the rows at p and q, with its variables numbered, if there is one.
-    pub fn common_form(&mut self, p: u32, q: u32) -> Result<Option<Form>, FormFault>
+    pub fn common_form(&mut self, p: u32, q: u32) -> Result<Option<Form>, TooLarge>
         requires left { p < size_of self.old }
         requires right { q < size_of self.old }
         requires links { links_of self.old ≡ [] }
@@ -34,7 +33,7 @@ impl Unifier<'_> {
             return Ok(None);
         }
         let mut form = Form::new();
-        self.write_rows(&mut form, p, 1).ok_or(FormFault::TooLarge)?;
+        self.write_rows(&mut form, p, 1)?;
         Ok(Some(form))
     }
 }

@@ -1,5 +1,6 @@
 use Rattle.std.proofs.Common.{◌≡◌, ◌∷◌, [], ◌++◌, length, Some, None, ◌==◌, position, sym, ap, ◌∙◌, subst, arith, length-append}
 use Rattle.std.proofs.lemmas.Grind.{common_steps}
+use Rattle.std.proofs.lemmas.Result.{MatchResult-from_err}
 use Rattle.unification.proofs.NameFacts.{Says, place_says}
 use Rattle.unification.proofs.form.Form.number_of.Goals as goal
 use Rattle.unification.proofs.form.Form.number_of.Goals.{After-place_among}
@@ -16,12 +17,12 @@ returns-in-Some-clause-number c =
     subst (Says c.args.self.now.names.items c.args.variable) c.in-Some.is (says (goal.at.returns-in-Some-clause-number c).After-place_among) in
     (m.0, sym m.2)
 
-pub returns-in_err-ok-clause-number : goal.returns-in_err-ok-clause-number
-returns-in_err-ok-clause-number c =
+pub returns-in_err-map_err-clause-number : goal.returns-in_err-map_err-clause-number
+returns-in_err-map_err-clause-number c =
     let m : Says c.args.self.now.names.items c.args.variable None =
-    subst (Says c.args.self.now.names.items c.args.variable) c.in_default.is (says (goal.at.returns-in_err-ok-clause-number c).After-place_among) in
+    subst (Says c.args.self.now.names.items c.args.variable) c.in_default.is (says (goal.at.returns-in_err-map_err-clause-number c).After-place_among) in
     let full : length c.args.self.now.names.items ≡ 64 = grind (arith, common_steps) in
-    rw c.from_residual.ensures (omega (arith, ap length m.1, length-append c.args.self.now.names.items (c.args.variable ∷ [])))
+    MatchResult-from_err c.from_residual.result _ _ c.from_residual.ensures.0 (λ e. omega (arith, full, ap length m.1, length-append c.args.self.now.names.items (c.args.variable ∷ [])))
 
 pub returns-clause-number : goal.returns-clause-number
 returns-clause-number c =

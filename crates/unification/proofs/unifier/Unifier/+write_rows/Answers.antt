@@ -1,4 +1,5 @@
-use Rattle.std.proofs.Common.{◌≡◌, ℕ, ◌+◌, ◌<◌, true, false, [], ◌∷◌, ◌++◌, length, drop, Some, None, sym, ap, ◌∙◌, subst, subst₂, arith, length-append}
+use Rattle.std.proofs.Common.{◌≡◌, ℕ, ◌+◌, ◌<◌, true, false, [], ◌∷◌, ◌++◌, length, drop, Ok, Err, sym, ap, ◌∙◌, subst, subst₂, arith, length-append}
+use Rattle.std.proofs.lemmas.Result.{err_from_is_err_and}
 use Rattle.unification.specs.Memory.{Has, need, binds, cell_at, places_from}
 use Rattle.cells.specs.Variables.{index, include}
 use Rattle.unification.specs.Number.{number, Wrote}
@@ -12,7 +13,7 @@ pub returns-then-n-eq0 : goal.returns-then-n-eq0
 returns-then-n-eq0 t c =
     let u = c.args.self.now in
     let G = graph_of u in
-    subst (λ n. Wrote G u.links.items (places_from u.cells.now c.args.i n) c.args.form.now c.args.form.now (Some tt)) (sym c.if-n-eq0.true)
+    subst (λ n. Wrote G u.links.items (places_from u.cells.now c.args.i n) c.args.form.now c.args.form.now (Ok tt)) (sym c.if-n-eq0.true)
     (w_none G (law_of u) u.links.items c.args.form.now)
 
 pub returns-in_err-number : goal.returns-in_err-number
@@ -24,8 +25,9 @@ returns-in_err-number t c =
     let old = c.args.form.now in
     let vx : binds u.kinds (cell_at mem x) ≡ true = ap (binds u.kinds) (sym c.head-x.ensures.cell) ∙ sym c.if-binds.ensures in
     let big : 64 < length (include old.names.items (cell_at mem x)) = subst (λ w. 64 < length (include old.names.items w)) c.head-x.ensures.cell c.in_err-number.ensures.number in
-    subst₂ (λ P r. Wrote G u.links.items P old c.number_of.new.self r) (sym (places_first mem c.args.n c.args.i c.if-n-eq0.false c.requires)) (sym c.from_residual.ensures)
-    (w_names G (law_of u) u.links.items c.args.i x c.head-x.ensures.place old _ c.number_of.new.self vx big)
+    let e = err_from_is_err_and c.from_residual.result c.from_residual.ensures.1 in
+    subst₂ (λ P r. Wrote G u.links.items P old c.number_of.new.self r) (sym (places_first mem c.args.n c.args.i c.if-n-eq0.false c.requires)) (sym e.1)
+    (w_names G (law_of u) u.links.items c.args.i x c.head-x.ensures.place old _ c.number_of.new.self e.0 vx big)
 
 pub write_rows-requires : goal.write_rows-requires
 write_rows-requires t c =
@@ -48,10 +50,11 @@ returns-in_err-write_rows t c =
     let x = c.head-x.result.0 in
     let old = c.args.form.now in
     let sx : binds u.kinds (cell_at mem x) ≡ false = ap (binds u.kinds) (sym c.head-x.ensures.cell) ∙ sym c.if-binds.ensures in
-    subst₂ (λ P r. Wrote G u.links.items P old c.write_rows.new.form r) (sym (places_first mem c.args.n c.args.i c.if-n-eq0.false c.requires)) (sym c.from_residual-in_err-write_rows.ensures)
+    let e = err_from_is_err_and c.from_residual-in_err-write_rows.result c.from_residual-in_err-write_rows.ensures.1 in
+    subst₂ (λ P r. Wrote G u.links.items P old c.write_rows.new.form r) (sym (places_first mem c.args.n c.args.i c.if-n-eq0.false c.requires)) (sym e.1)
     (w_down G (law_of u) u.links.items c.args.i x c.head-x.ensures.place old c.push-else-binds.new.self c.write_rows.new.form sx
-    (c.in_ok-push-2.ensures.cells ∙ ap (λ w. old.cells.items ++ w ∷ []) c.head-x.ensures.cell) (ap (λ v. v.items) c.in_ok-push-2.ensures.names) _ c.write_rows.new.form
-    (subst (λ k. Wrote G u.links.items (places_from mem (x + 1) k) c.push-else-binds.new.self c.write_rows.new.form None) (need_of mem x c.head-x.result.1 c.arity_of.result (omega arith) c.head-x.ensures.cell c.arity_of.ensures) c.in_err-write_rows.ensures))
+    (c.in_ok-push-2.ensures.cells ∙ ap (λ w. old.cells.items ++ w ∷ []) c.head-x.ensures.cell) (ap (λ v. v.items) c.in_ok-push-2.ensures.names) _ c.write_rows.new.form c.in_err-write_rows.field-0.0 e.0
+    (subst (λ k. Wrote G u.links.items (places_from mem (x + 1) k) c.push-else-binds.new.self c.write_rows.new.form (Err c.in_err-write_rows.field-0.0)) (need_of mem x c.head-x.result.1 c.arity_of.result (omega arith) c.head-x.ensures.cell c.arity_of.ensures) c.in_err-write_rows.ensures))
 
 -- whichever way the first place's row was written
 first : (t : ℕ) (c : After-end t) → let u = c.args.self.now in
@@ -78,7 +81,7 @@ first t c =
           (first_sym G W L c.args.i x c.head-x.ensures.place old w.push-else-binds.new.self w.write_rows.new.form
           (ap (binds u.kinds) (sym c.head-x.ensures.cell) ∙ sym w.if-binds.ensures)
           (w.in_ok-push-2.ensures.cells ∙ ap (λ w. old.cells.items ++ w ∷ []) c.head-x.ensures.cell) (ap (λ v. v.items) w.in_ok-push-2.ensures.names)
-          (subst (λ k. Wrote G L (places_from mem (x + 1) k) w.push-else-binds.new.self w.write_rows.new.form (Some tt)) em w.in_ok-write_rows.ensures)))
+          (subst (λ k. Wrote G L (places_from mem (x + 1) k) w.push-else-binds.new.self w.write_rows.new.form (Ok tt)) em w.in_ok-write_rows.ensures)))
     ]
 
 pub write_rows-requires-2 : goal.write_rows-requires-2

@@ -1,6 +1,6 @@
-use Rattle.std.proofs.Common.{◌≡◌, [], ◌∷◌, Some, None, Err, sym, refl, subst, arith}
+use Rattle.std.proofs.Common.{◌≡◌, [], ◌∷◌, Ok, sym, refl, subst, arith}
 use Rattle.std.proofs.lemmas.Grind.{common_steps}
-use Rattle.unification.specs.declared.fault.FormFault.TheVariants.{TooLarge}
+use Rattle.std.proofs.lemmas.Result.{err_from_is_err_and}
 use Rattle.unification.specs.Number.{Wrote, Common}
 use Rattle.unification.specs.Unifiers.{graph_of}
 use Rattle.unification.proofs.DownFacts.{law_of, same_graph}
@@ -17,24 +17,23 @@ wrote c =
     subst (λ G. Wrote G v.links.items (c.args.p ∷ []) c.new-form.result c.write_rows.new.form c.write_rows.result)
     (same_graph v.kinds u.kinds v.cells u.cells c.unify.ensures.kinds c.unify.ensures.cells) c.write_rows.ensures
 
-pub returns-in_err-ok_or : goal.returns-in_err-ok_or
-returns-in_err-ok_or c =
+pub returns-in_err-write_rows : goal.returns-in_err-write_rows
+returns-in_err-write_rows c =
     let u = c.args.self.now in
     let G = graph_of u in
     let L = c.unify.new.self.links.items in
-    let none : c.write_rows.result ≡ None = grind (arith, common_steps) in
-    let large : c.from_residual.result ≡ Err TooLarge = grind (arith, common_steps) in
-    subst (Common G c.args.p c.args.q) (sym large)
-    (form_over G (law_of u) c.args.p c.args.q L (c.if-not-unify.ensures.out refl) (c.if-not-unify.ensures.solved refl)
+    let e = err_from_is_err_and c.from_residual.result c.from_residual.ensures.1 in
+    subst (Common G c.args.p c.args.q) (sym e.1)
+    (form_over G (law_of u) c.args.p c.args.q L c.in_err-write_rows.field-0.0 e.0 (c.if-not-unify.ensures.out refl) (c.if-not-unify.ensures.solved refl)
     c.new-form.result c.write_rows.new.form c.new-form.ensures.cells c.new-form.ensures.names
-    (subst (Wrote G L (c.args.p ∷ []) c.new-form.result c.write_rows.new.form) none (wrote (goal.at.returns-in_err-ok_or c).After-write_rows)))
+    (subst (Wrote G L (c.args.p ∷ []) c.new-form.result c.write_rows.new.form) (c.in_err-write_rows.was) (wrote (goal.at.returns-in_err-write_rows c).After-write_rows)))
 
 pub returns : goal.returns
 returns c =
     let u = c.args.self.now in
     let G = graph_of u in
     let L = c.unify.new.self.links.items in
-    let some : c.write_rows.result ≡ Some tt = grind (arith, common_steps) in
+    let done : c.write_rows.result ≡ Ok tt = grind (arith, common_steps) in
     form_some G (law_of u) c.args.p c.args.q L (c.if-not-unify.ensures.out refl) (c.if-not-unify.ensures.solved refl)
     c.new-form.result c.write_rows.new.form c.new-form.ensures.cells c.new-form.ensures.names
-    (subst (Wrote G L (c.args.p ∷ []) c.new-form.result c.write_rows.new.form) some (wrote (goal.at.returns c).After-write_rows))
+    (subst (Wrote G L (c.args.p ∷ []) c.new-form.result c.write_rows.new.form) done (wrote (goal.at.returns c).After-write_rows))
