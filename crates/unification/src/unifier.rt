@@ -6,7 +6,7 @@ ghost use Rattle.unification.specs.Close.{Fit};
 use crate::kinds::Kinds;
 use arrayvec::ArrayVec;
 
-// Rows in one memory, and which of its places were made one: a link makes its first place stand for nothing, and its second for both.
+// Rows in one memory, and which of its places were made one: behind a link its first place no longer stands for itself, and its second stands for both.
 // A place is a position, or a variable's own word: both are words of one range, as the memory lays them out.
 #[derive(Drop)]
 pub struct Unifier<'a> {
