@@ -4,6 +4,12 @@ ghost use Rattle.unification.specs.Memory.{binds};
 
 use cells::VARIABLE;
 
+// A memory's variables: those of the formula begin at VARIABLE, and then these follow.
+pub const RULE: u32 = 0x9000_0000;
+
+pub const TREE: u32 = 0xA000_0000;
+
+// Today all kinds are bound. Rows that stand in a tree will bind only some.
 #[derive(Clone, Copy)]
 pub struct Kinds {
     pub formula: bool,
@@ -23,9 +29,9 @@ impl Kinds {
     pub fn binds(self, word: u32) -> bool
         ensures { result ≡ binds self word }
     {
-        if word >= 0xA000_0000 {
+        if word >= TREE {
             self.tree
-        } else if word >= 0x9000_0000 {
+        } else if word >= RULE {
             self.rule
         } else {
             word >= VARIABLE && self.formula

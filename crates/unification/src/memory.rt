@@ -4,6 +4,7 @@ ghost use Rattle.cells.specs.Cells.{IsCell, cell, row};
 ghost use Rattle.cells.specs.Records.{row_words};
 ghost use Rattle.unification.specs.Codes.{tagged};
 
+use crate::kinds::RULE;
 use arrayvec::ArrayVec;
 use cells::{Formula, RuleSide, VARIABLE};
 
@@ -12,7 +13,11 @@ fn rule_word(w: u32) -> u32
     requires { IsCell w }
     ensures { result ≡ tagged 0x90000000 (cell w) }
 {
-    if w >= VARIABLE { w + 0x1000_0000 } else { w }
+    if w >= VARIABLE {
+        RULE + (w - VARIABLE)
+    } else {
+        w
+    }
 }
 
 // The left side, and behind it the formula.
