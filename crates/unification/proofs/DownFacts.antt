@@ -46,9 +46,6 @@ need_small c h = subst (λ n. n < 65536) (sym (need_word c h)) (go (is_var c))
 
 -- the first of n rows, and those behind it
 module _ (mem : List ℕ) (n i : ℕ) (ne : n ≡ 0 → ⊥) (h : Has n (drop i mem)) where
-  pub first_low : i < length mem
-  first_low = let p : 0 < n = omega arith in (has_step mem i n p h).low
-
   pub places_first : places_from mem i n ≡ i ∷ places_from mem (i + size 1 (drop i mem)) (n - 1)
   places_first = let k : n ≡ suc (n - 1) = omega arith in ap (places_from mem i) k
 

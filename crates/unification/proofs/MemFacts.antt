@@ -1,5 +1,5 @@
 -- The places of a memory obey the laws of a graph. Assumes nothing.
-use Rattle.std.proofs.Common.{◌≡◌, ℕ, zero, suc, pred, ◌+◌, ◌-◌, ◌/◌, ◌<◌, ◌≤◌, Bool, true, false, cond, ◌&&◌, ltb, leb, List, [], ◌∷◌, ◌++◌, length, get_or, take, drop, sym, refl, ap, ◌∙◌, subst, ap₂, add-zero, zero-add, arith, length-drop, get_or-drop, drop-cons, drop-drop, take-add}
+use Rattle.std.proofs.Common.{◌≡◌, ℕ, zero, suc, pred, ◌+◌, ◌-◌, ◌/◌, ◌<◌, Bool, true, false, cond, ◌&&◌, ltb, leb, List, [], ◌∷◌, ◌++◌, length, get_or, take, drop, sym, refl, ap, ◌∙◌, subst, ap₂, add-zero, zero-add, arith, length-drop, get_or-drop, drop-cons, drop-drop, take-add}
 use Rattle.std.proofs.lemmas.Bool.{false≢true, lt-ltb, lt-leb}
 use Rattle.cells.specs.Cells.{arity}
 use Rattle.unification.specs.Rows.{Wholes}
@@ -180,12 +180,6 @@ module _ (mem : List ℕ) (M : Memory mem) where
       many = λ p. many_places mem (p + 1) (need (cell_at mem p));
       var_node = var_at;
     }
-
-pub has_le : (cs : List ℕ) (k : ℕ) → Has k cs → k ≤ length cs
-has_le [] zero h = omega arith
-has_le [] (suc k) h = absurd (false≢true h)
-has_le (c ∷ cs) zero h = omega arith
-has_le (c ∷ cs) (suc k) h = omega (arith, has_le cs (k + need c) h)
 
 -- one cell on in a row of which `left` rows are still to come
 pub record Stepped (mem : List ℕ) (at left : ℕ) : Type 0 where

@@ -15,10 +15,6 @@ size_whole [] (c ∷ t) k h = ap (λ n. size n (c ∷ t)) h
 size_whole (c ∷ s) t zero h = let p : 0 < 0 = h.0 in let z : ⊥ = omega arith in absurd z
 size_whole (c ∷ s) t (suc k) h = ap suc (size_whole s t (k + need c) h.1)
 
-whole_cons : (s : List ℕ) → Wholes need 1 s → 0 < length s
-whole_cons [] h = let z : ⊥ = omega arith in absurd z
-whole_cons (c ∷ s) h = omega arith
-
 -- a whole row that stands at a place is the row there
 pub term_stands : (mem : List ℕ) (p : ℕ) (s t : List ℕ) → p < 0x80000000 → drop p mem ≡ s ++ t → Wholes need 1 s → term_at mem p ≡ s
 term_stands mem p s t h e w =

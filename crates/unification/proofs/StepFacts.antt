@@ -1,15 +1,9 @@
 -- What one step of the closing does to the replacements: arguments taken apart, two symbols that differ, and a place inside itself. Assumes nothing.
-use Rattle.std.proofs.Common.{◌≡◌, ℕ, suc, ◌<◌, ◌≤◌, false, cond, List, [], ◌∷◌, ◌++◌, length, sym, refl, ap, ◌∙◌, ap₂, inl, inr, arith, length-append}
+use Rattle.std.proofs.Common.{◌≡◌, ℕ, suc, ◌<◌, ◌≤◌, false, cond, List, [], ◌∷◌, ◌++◌, length, sym, refl, ap, ◌∙◌, inl, inr, arith, length-append}
 use Rattle.unification.specs.Rows.{Wholes, image, put, WholeAt}
 use Rattle.unification.specs.Graph.{Graph, Laws, In, flat, Links, Pairs, norm, val, SameVal, Sat}
 use Rattle.unification.proofs.RowFacts.{cons_head, cons_tail, wholes_unique, put_append, put_wholes}
 use Rattle.unification.proofs.LinkFacts.{norm_val}
-
-pub flat_pairs : (f : ℕ → List ℕ) (ps qs : List ℕ) → Pairs (λ p q. f p ≡ f q) ps qs → flat f ps ≡ flat f qs
-flat_pairs f [] [] h = refl
-flat_pairs f [] (q ∷ qs) h = absurd h
-flat_pairs f (p ∷ ps) [] h = absurd h
-flat_pairs f (p ∷ ps) (q ∷ qs) h = ap₂ (λ a b. a ++ b) h.0 (flat_pairs f ps qs h.1)
 
 pub flat_split : (need : ℕ → ℕ) (f : ℕ → List ℕ) → ((p : ℕ) → Wholes need 1 (f p)) → (ps qs : List ℕ) → length ps ≡ length qs →
     flat f ps ≡ flat f qs → Pairs (λ p q. f p ≡ f q) ps qs
