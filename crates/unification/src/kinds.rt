@@ -4,7 +4,7 @@ ghost use Rattle.unification.specs.Memory.{binds};
 
 use cells::VARIABLE;
 
-// A memory's variables: those of the formula begin at VARIABLE, and then these follow.
+// A memory's variables: those of the formula begin at VARIABLE, those of the rule and of the tree here.
 pub const RULE: u32 = 0x9000_0000;
 
 pub const TREE: u32 = 0xA000_0000;
