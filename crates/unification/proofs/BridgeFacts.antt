@@ -7,11 +7,19 @@ use Rattle.cells.specs.Rows.{Whole}
 use Rattle.cells.specs.Substitutions.{Substitution, substitute}
 use Rattle.cells.proofs.Terms.{Terms, reads_terms, terms_reads}
 use Rattle.matching.specs.Relations.{General, Unifiable}
+use Rattle.unification.specs.declared.kinds.Kinds.{Kinds}
 use Rattle.unification.specs.Codes.{is_var, code, tagged}
-use Rattle.unification.specs.Memory.{need, binds, bound}
+use Rattle.unification.specs.Memory.{need, binds}
 use Rattle.unification.specs.Rows.{Wholes, image, put, WholeAt}
 use Rattle.unification.proofs.MemFacts.{need_var}
 use Rattle.unification.proofs.CodeFacts.{cell_of, Low, mid_var, need_cell, need_code, cell_code, code_var}
+
+-- every variable may be bound
+abbrev pub all_kinds : Kinds
+all_kinds = record { formula = true; rule = true; tree = true }
+
+abbrev pub bound : ℕ → Bool
+bound c = binds all_kinds c
 
 -- some replacement of the variables of is_v makes one row of s and t
 pub record Relates (is_v : ℕ → Bool) (need : ℕ → ℕ) (s t : List ℕ) (r : Bool) : Type 0 where

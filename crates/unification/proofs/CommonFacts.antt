@@ -10,12 +10,12 @@ use Rattle.cells.proofs.Variants.{variables_rename, variable_laws}
 use Rattle.matching.specs.Relations.{General, Common}
 use Rattle.matching.proofs.Relating.{relation_laws}
 use Rattle.unification.specs.Codes.{is_var, code, tagged}
-use Rattle.unification.specs.Memory.{need, bound}
+use Rattle.unification.specs.Memory.{need}
 use Rattle.unification.specs.Rows.{Wholes, image, put, WholeAt}
 use Rattle.unification.specs.Number.{number, after, met}
 use Rattle.unification.proofs.MemFacts.{low_var}
 use Rattle.unification.proofs.CodeFacts.{cell_of, Low, Plain, AllPlain, cell_of_variable, cell_of_symbol, cells_codes}
-use Rattle.unification.proofs.BridgeFacts.{bound_var, wholes_whole, joint, joint_whole, left_general, right_general, left_put, right_put}
+use Rattle.unification.proofs.BridgeFacts.{bound_var, wholes_whole, joint, joint_whole, left_general, right_general, left_put, right_put, bound}
 
 -- what a replacement makes of a plain row, read as cells
 plain_put : (τ : ℕ → List ℕ) (R : List ℕ) → AllPlain R → substitute (λ v. map cell_of (τ v)) (map cell_of R) ≡ map cell_of (put bound τ R)

@@ -6,11 +6,12 @@ use Rattle.cells.specs.Cells.{arity, cell}
 use Rattle.cells.proofs.Words.{cell_symbol, cell_variable}
 use Rattle.unification.specs.declared.kinds.Kinds.{Kinds}
 use Rattle.unification.specs.declared.unifier.Unifier.{Unifier}
-use Rattle.unification.specs.Graph.{Graph, Laws, Links, find, canon, norm}
+use Rattle.unification.specs.Graph.{Graph, Links, find, canon, norm}
 use Rattle.unification.specs.Codes.{is_var}
 use Rattle.unification.specs.Memory.{need, binds, size, Has, cell_at, places_from, kids_at, Memory, over}
 use Rattle.unification.specs.Close.{Place, Fit, Out}
 use Rattle.unification.specs.Unifiers.{graph_of, Root}
+use Rattle.unification.proofs.GraphLaws.{Laws}
 use Rattle.unification.proofs.MemFacts.{laws, has_step, has_drop, cell_low, low_var, var_word, need_word}
 use Rattle.unification.proofs.FitFacts.{place_at, place_node, room_more, fit_more}
 use Rattle.unification.proofs.OutFacts.{true_not, out_same, out_bind, out_clash, out_down_no, out_down, out_sym}

@@ -2,11 +2,12 @@
 use Rattle.std.proofs.Common.{◌≡◌, ℕ, zero, suc, ◌<◌, ◌≤◌, Bool, true, false, ◌⊎◌, List, [], ◌∷◌, ◌++◌, length, replicate, set, sym, refl, ap, ◌∙◌, subst, inl, inr, le_refl, arith, get_or-set_other, get_or-set_same}
 use Rattle.std.proofs.lemmas.List.Sums.{sum_by-set}
 use Rattle.std.proofs.lemmas.Bool.{cases_eq}
-use Rattle.unification.specs.Graph.{Graph, Laws, Links, norm, val, Sols}
+use Rattle.unification.specs.Graph.{Graph, Links, norm, val, Sols}
 use Rattle.unification.specs.Graph.Sols.{none, more}
 use Rattle.unification.specs.declared.unifier.walking.Mark.{Mark}
 use Rattle.unification.specs.declared.unifier.walking.Mark.TheVariants.{New, Open, Done}
 use Rattle.unification.specs.Finite.{newness, fresh, mark_at, Above, Ended, Fin}
+use Rattle.unification.proofs.GraphLaws.{Laws}
 use Rattle.unification.proofs.LinkFacts.{norm_val, kids_none}
 use Rattle.unification.proofs.StepFacts.{val_sym, in_flat}
 use Rattle.unification.proofs.OutFacts.{true_not}

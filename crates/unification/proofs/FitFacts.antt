@@ -1,8 +1,9 @@
 -- A new link between two places that stand for themselves leaves the list in order, with room. Assumes nothing.
 use Rattle.std.proofs.Common.{◌≡◌, ℕ, zero, suc, ◌+◌, ◌<◌, ◌≤◌, Bool, true, false, cond, ◌&&◌, eqb, ◌≢◌, ◌⊎◌, [], ◌∷◌, ◌++◌, length, sym, refl, ap, ◌∙◌, subst, ap₂, inl, inr, ⊎_elim, true≢false, le_refl, add-one, arith, length-append}
 use Rattle.std.proofs.lemmas.Bool.{false≢true, eqb-true, eq-eqb, cases_eq, and_parts, and_from, or_cases, or_left, or_right}
-use Rattle.unification.specs.Graph.{Graph, Laws, Links, follow, find, canon, norm}
+use Rattle.unification.specs.Graph.{Graph, Links, follow, find, canon, norm}
 use Rattle.unification.specs.Close.{roots, is_place, Place, is_between, Fit}
+use Rattle.unification.proofs.GraphLaws.{Laws}
 use Rattle.unification.proofs.LinkFacts.{find_append, follow_cases}
 
 pub follow_same : (x y : ℕ) → follow (x, y) x ≡ y

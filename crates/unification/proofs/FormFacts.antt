@@ -2,10 +2,11 @@
 use Rattle.std.proofs.Common.{◌≡◌, ℕ, ◌≤◌, true, List, [], ◌∷◌, ◌++◌, length, Some, Ok, Err, sym, refl, ap, ap₂, ◌∙◌, subst, subst₂, le_refl}
 use Rattle.unification.specs.declared.form.Form.{Form}
 use Rattle.unification.specs.declared.form.TooLarge.{TooLarge}
-use Rattle.unification.specs.Graph.{Graph, Laws, Links, Sols, Made, norm, val, Closed, Sol}
+use Rattle.unification.specs.Graph.{Graph, Links, Sols, Made, norm, val, Closed, Sol}
 use Rattle.unification.specs.Graph.Sols.{none, more}
 use Rattle.unification.specs.Close.{Out, General, Solved}
 use Rattle.unification.specs.Number.{number, after, Over, Written, Wrote, Common}
+use Rattle.unification.proofs.GraphLaws.{Laws}
 use Rattle.unification.proofs.SolFacts.{sols_unique, sol_node, sol_whole, sol_solves, sol_general}
 use Rattle.unification.proofs.SolveFacts.{row_of, row_of_sol}
 

@@ -13,12 +13,12 @@ use Rattle.unification.specs.declared.kinds.Kinds.{Kinds}
 use Rattle.unification.specs.Codes.{tagged, code}
 use Rattle.unification.specs.Rows.{put}
 use Rattle.unification.specs.Graph.{val}
-use Rattle.unification.specs.Memory.{need, term_at, all_kinds, bound, Memory, over}
+use Rattle.unification.specs.Memory.{need, term_at, Memory, over}
 use Rattle.unification.specs.Close.{General, Decides}
 use Rattle.unification.specs.Number as number
 use Rattle.unification.specs.Forms.{Formed}
 use Rattle.unification.proofs.RelFacts.{first, second, two_rows, relates}
-use Rattle.unification.proofs.BridgeFacts.{Relates, joint, joint_whole, left_put, right_put, unified}
+use Rattle.unification.proofs.BridgeFacts.{Relates, joint, joint_whole, left_put, right_put, unified, all_kinds, bound}
 use Rattle.unification.proofs.TagFacts.{low_row, left_wholes, right_wholes, tagged_same, left_length, memory_length}
 use Rattle.unification.proofs.CommonFacts.{form_of, form_words, form_length, form_variables, form_common}
 use Rattle.unification.proofs.PlainFacts.{plain_memory, made_plain}

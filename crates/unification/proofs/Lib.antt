@@ -1,4 +1,5 @@
 pub mod RowFacts
+pub mod GraphLaws
 pub mod LinkFacts
 pub mod StepFacts
 pub mod SolFacts

@@ -2,7 +2,8 @@
 use Rattle.std.proofs.Common.{◌≡◌, ℕ, Bool, true, false, cond, eqb, ◌≢◌, ◌⊎◌, List, [], ◌∷◌, ◌++◌, length, sym, refl, ap, ◌∙◌, subst, inl, inr, arith}
 use Rattle.std.proofs.lemmas.Bool.{ne_eqb, eqb-true}
 use Rattle.unification.specs.Rows.{put}
-use Rattle.unification.specs.Graph.{Graph, Laws, flat, Links, follow, find, Pairs, canon, norm, Joined, val, Sat, Closed}
+use Rattle.unification.specs.Graph.{Graph, Links, follow, find, Pairs, canon, norm, Joined, val, Sat, Closed}
+use Rattle.unification.proofs.GraphLaws.{Laws, flat}
 
 pub find_append : (L M : Links) (a : ℕ) → find (L ++ M) a ≡ find M (find L a)
 find_append [] M a = refl

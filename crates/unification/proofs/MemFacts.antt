@@ -3,9 +3,9 @@ use Rattle.std.proofs.Common.{◌≡◌, ℕ, zero, suc, pred, ◌+◌, ◌-◌,
 use Rattle.std.proofs.lemmas.Bool.{false≢true, lt-ltb, lt-leb}
 use Rattle.cells.specs.Cells.{arity}
 use Rattle.unification.specs.Rows.{Wholes}
-use Rattle.unification.specs.Graph.{Laws, flat}
 use Rattle.unification.specs.Codes.{is_var, high_cell}
 use Rattle.unification.specs.Memory.{Has, need, size, or_var, from, cell_at, term_at, places_from, kids_at, graph, Memory}
+use Rattle.unification.proofs.GraphLaws.{Laws, flat}
 
 pub has_all : (cs : List ℕ) (k : ℕ) → Wholes need k cs → Has k cs
 has_all [] zero h = refl

@@ -1,7 +1,8 @@
 -- The ways through one equation of the closing, each with the equations behind it. Assumes nothing.
 use Rattle.std.proofs.Common.{◌≡◌, ℕ, Bool, true, false, ◌≢◌, ◌⊎◌, List, [], ◌∷◌, ◌++◌, sym, refl, ap, ◌∙◌, subst, inl, inr, true≢false, append_assoc, append-nil}
-use Rattle.unification.specs.Graph.{Graph, Laws, Links, follow, find, Pairs, canon, norm, Joined, val, SameVal, Sat, ClosedAt, Closed}
+use Rattle.unification.specs.Graph.{Graph, Links, follow, find, Pairs, canon, norm, Joined, val, SameVal, Sat, ClosedAt, Closed}
 use Rattle.unification.specs.Close.{WholeFor, Out}
+use Rattle.unification.proofs.GraphLaws.{Laws}
 use Rattle.unification.proofs.LinkFacts.{find_append, follow_cases, joined_append, closed_append, closed_join, sat_append, norm_val, pairs_map}
 use Rattle.unification.proofs.StepFacts.{split_cell, split_kids}
 use Rattle.unification.proofs.FitFacts.{follow_same}

@@ -4,7 +4,8 @@ use Rattle.cells.specs.Cells.{cell, row, IsCell, AllCells}
 use Rattle.cells.proofs.Words.{is_cell_cases}
 use Rattle.unification.specs.Codes.{is_var, tagged}
 use Rattle.unification.specs.Graph.{Made}
-use Rattle.unification.specs.Memory.{or_var, cell_at, all_kinds, over}
+use Rattle.unification.specs.Memory.{or_var, cell_at, over}
+use Rattle.unification.proofs.BridgeFacts.{all_kinds}
 use Rattle.unification.proofs.MemFacts.{var_zero}
 use Rattle.unification.proofs.CodeFacts.{Plain, AllPlain, mid_var}
 use Rattle.unification.proofs.TagFacts.{tagged_symbol, tagged_variable, tagged_same}

@@ -1,6 +1,10 @@
 -- Rows of words: the whole ones, and what a replacement makes of them. Assumes nothing.
 use Rattle.std.proofs.Common.{◌≡◌, ℕ, pred, ◌+◌, ◌<◌, Bool, true, false, cond, List, [], ◌∷◌, ◌++◌, sym, refl, ap, ◌∙◌, subst, ap₂, append_assoc, arith}
-use Rattle.unification.specs.Rows.{Wholes, image, put, WholeAt, Leafy}
+use Rattle.unification.specs.Rows.{Wholes, image, put, WholeAt}
+
+-- a variable is a whole row by itself
+abbrev pub Leafy : (ℕ → Bool) → (ℕ → ℕ) → Type 0
+Leafy is_v need = (c : ℕ) → is_v c ≡ true → need c ≡ 0
 
 -- the first cell and the rest of two equal rows
 pub cons_head : {a b : ℕ} {xs ys : List ℕ} → ◌≡◌ {A = List ℕ} (a ∷ xs) (b ∷ ys) → a ≡ b

@@ -1,9 +1,10 @@
 -- Closing and solving as such, without a program: rows that one replacement makes one have a most general one. Assumes nothing.
 use Rattle.std.proofs.Common.{◌≡◌, ℕ, zero, suc, ◌+◌, ◌<◌, ◌≤◌, Bool, true, false, eqb, ◌≢◌, List, [], ◌∷◌, ◌++◌, length, sym, refl, ap, ◌∙◌, subst, inl, inr, le_refl, arith, length-append}
 use Rattle.std.proofs.lemmas.Bool.{eqb-true, eqb-false}
-use Rattle.unification.specs.Graph.{Graph, Laws, Links, find, canon, norm, In, val, SameVal, Sat, Sols, Sol, Made}
+use Rattle.unification.specs.Graph.{Graph, Links, find, canon, norm, In, val, SameVal, Sat, Sols, Sol, Made}
 use Rattle.unification.specs.Graph.Sols.{none, more}
 use Rattle.unification.specs.Close.{Place, Fit, Out, WholeFor, General, Solved}
+use Rattle.unification.proofs.GraphLaws.{Laws}
 use Rattle.unification.proofs.LinkFacts.{kids_none, norm_val}
 use Rattle.unification.proofs.StepFacts.{val_sym, inside}
 use Rattle.unification.proofs.FitFacts.{place_node, norm_place, room_more, fit_more, fit_none}

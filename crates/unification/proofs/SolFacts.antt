@@ -1,8 +1,9 @@
 -- The rows that closed links give: one for each place, made of the variables that are left, a most general solution. Assumes nothing.
 use Rattle.std.proofs.Common.{◌≡◌, ℕ, zero, suc, pred, ◌+◌, ◌<◌, ◌≤◌, Bool, true, false, cond, List, [], ◌∷◌, ◌++◌, length, sym, refl, ap, ◌∙◌, subst, ap₂, append_assoc, append-nil, le_refl, arith, length-append}
 use Rattle.unification.specs.Rows.{Wholes, image, put, WholeAt}
-use Rattle.unification.specs.Graph.{Graph, Laws, flat, Links, find, Pairs, canon, norm, Joined, val, SameVal, Sat, Closed, Sols, Sol}
+use Rattle.unification.specs.Graph.{Graph, Links, find, Pairs, canon, norm, Joined, val, SameVal, Sat, Closed, Sols, Sol}
 use Rattle.unification.specs.Graph.Sols.{none, more}
+use Rattle.unification.proofs.GraphLaws.{Laws, flat}
 use Rattle.unification.proofs.RowFacts.{wholes_append, put_append}
 use Rattle.unification.proofs.LinkFacts.{norm_val, closed_find, term_var}
 use Rattle.unification.proofs.StepFacts.{val_is, val_sym}

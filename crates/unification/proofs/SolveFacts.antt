@@ -1,9 +1,10 @@
 -- From links that are closed and have a row for each variable to the most general replacement. Assumes nothing.
 use Rattle.std.proofs.Common.{◌≡◌, ℕ, zero, suc, ◌<◌, Bool, true, false, cond, eqb, ◌≢◌, ◌⊎◌, List, [], ◌∷◌, ◌++◌, length, get_or, sym, refl, ap, ◌∙◌, subst, inl, inr, arith}
 use Rattle.std.proofs.lemmas.Bool.{eqb-true, eq-eqb}
-use Rattle.unification.specs.Graph.{Graph, Laws, Links, follow, find, canon, norm, Joined, Sat, Closed, Sols, Sol}
+use Rattle.unification.specs.Graph.{Graph, Links, follow, find, canon, norm, Joined, Sat, Closed, Sols, Sol}
 use Rattle.unification.specs.Graph.Sols.{none, more}
 use Rattle.unification.specs.Close.{Place, is_between, Out, Solved, Decides}
+use Rattle.unification.proofs.GraphLaws.{Laws}
 use Rattle.unification.proofs.LinkFacts.{kids_none, follow_miss}
 use Rattle.unification.proofs.FitFacts.{between_parts}
 use Rattle.unification.proofs.OutFacts.{true_not}

@@ -3,7 +3,8 @@ use Rattle.std.proofs.Common.{◌≡◌, ℕ, zero, suc, pred, ◌+◌, ◌*◌,
 use Rattle.std.proofs.lemmas.List.{take-map, drop-map, length-take-le, drop-drop}
 use Rattle.std.proofs.lemmas.Bool.{eq-eqb, ne_eqb}
 use Rattle.unification.specs.Rows.{Wholes}
-use Rattle.unification.specs.Graph.{Graph, Laws, flat}
+use Rattle.unification.specs.Graph.{Graph}
+use Rattle.unification.proofs.GraphLaws.{Laws, flat}
 use Rattle.unification.proofs.RowFacts.{wholes_append}
 use Rattle.unification.proofs.RunFacts.{Below}
 

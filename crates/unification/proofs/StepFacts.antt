@@ -1,7 +1,8 @@
 -- What one step of the closing does to the replacements: arguments taken apart, two symbols that differ, and a place inside itself. Assumes nothing.
 use Rattle.std.proofs.Common.{◌≡◌, ℕ, suc, ◌<◌, ◌≤◌, false, cond, List, [], ◌∷◌, ◌++◌, length, sym, refl, ap, ◌∙◌, inl, inr, arith, length-append}
 use Rattle.unification.specs.Rows.{Wholes, image, put, WholeAt}
-use Rattle.unification.specs.Graph.{Graph, Laws, In, flat, Links, Pairs, norm, val, SameVal, Sat}
+use Rattle.unification.specs.Graph.{Graph, In, Links, Pairs, norm, val, SameVal, Sat}
+use Rattle.unification.proofs.GraphLaws.{Laws, flat}
 use Rattle.unification.proofs.RowFacts.{cons_head, cons_tail, wholes_unique, put_append, put_wholes}
 use Rattle.unification.proofs.LinkFacts.{norm_val}
 

@@ -2,10 +2,11 @@
 use Rattle.std.proofs.Common.{◌≡◌, ℕ, suc, ◌+◌, ◌<◌, ◌≤◌, Bool, true, false, cond, ltb, List, [], ◌∷◌, Ok, Err, Result, ◌++◌, length, sym, refl, ap, ◌∙◌, subst, ap₂, inl, inr, append_assoc, append-nil, le_refl, arith, length-append}
 use Rattle.unification.specs.declared.form.Form.{Form}
 use Rattle.unification.specs.declared.form.TooLarge.{TooLarge}
-use Rattle.unification.specs.Graph.{Graph, Laws, Links, norm, Sols}
+use Rattle.unification.specs.Graph.{Graph, Links, norm, Sols}
 use Rattle.unification.specs.Graph.Sols.{none, more}
 use Rattle.cells.specs.Variables.{index, include}
 use Rattle.unification.specs.Number.{met, number, after, Over, Written, Wrote}
+use Rattle.unification.proofs.GraphLaws.{Laws}
 use Rattle.unification.proofs.LinkFacts.{kids_none}
 use Rattle.unification.proofs.SolFacts.{sols_unique}
 

@@ -1,11 +1,7 @@
 -- Terms that share a memory: each place has a cell, the places of its arguments and the row that stands there.
 -- A variable's own cell is a place too. A list of links says which places were made one. Assumes nothing.
-use Rattle.std.specs.Prelude.{◌≡◌, ℕ, Bool, true, false, cond, ◌⊎◌, List, [], ◌∷◌, ◌++◌, length, ◌==◌, fold}
-use Rattle.unification.specs.Rows.{Wholes, put, Leafy}
-
-abbrev pub flat : (ℕ → List ℕ) → List ℕ → List ℕ
-flat f [] = []
-flat f (p ∷ ps) = f p ++ flat f ps
+use Rattle.std.specs.Prelude.{◌≡◌, ℕ, Bool, false, cond, ◌⊎◌, List, [], ◌∷◌, ◌++◌, ◌==◌, fold}
+use Rattle.unification.specs.Rows.{put}
 
 -- is_v: the cells that are variables and may be bound; need: how many rows follow a cell
 pub record Graph : Type 0 where
@@ -14,13 +10,6 @@ pub record Graph : Type 0 where
   pub cell : ℕ → ℕ
   pub kids : ℕ → List ℕ
   pub term : ℕ → List ℕ
-
-pub record Laws (G : Graph) : Type 0 where
-  pub leafy : Leafy G.is_v G.need
-  pub whole : (p : ℕ) → Wholes G.need 1 (G.term p)
-  pub term_is : (p : ℕ) → G.term p ≡ G.cell p ∷ flat G.term (G.kids p)
-  pub many : (p : ℕ) → length (G.kids p) ≡ G.need (G.cell p)
-  pub var_node : (c : ℕ) → G.is_v c ≡ true → G.cell c ≡ c
 
 abbrev pub Links : Type 0
 Links = List (ℕ × ℕ)

@@ -61,10 +61,3 @@ pub record Memory (mem : List ℕ) : Type 0 where
 -- the graph of a memory in which the variables of these kinds may be bound
 abbrev pub over : Kinds → List ℕ → Graph
 over kinds mem = graph (binds kinds) mem
-
--- every variable may be bound
-abbrev pub all_kinds : Kinds
-all_kinds = record { formula = true; rule = true; tree = true }
-
-abbrev pub bound : ℕ → Bool
-bound c = binds all_kinds c

@@ -17,7 +17,3 @@ put is_v σ (c ∷ cs) = image is_v σ c ++ put is_v σ cs
 -- a replacement puts a whole row for each variable
 abbrev pub WholeAt : (ℕ → Bool) → (ℕ → ℕ) → (ℕ → List ℕ) → Type 0
 WholeAt is_v need σ = (c : ℕ) → is_v c ≡ true → Wholes need 1 (σ c)
-
--- a variable is a whole row by itself
-abbrev pub Leafy : (ℕ → Bool) → (ℕ → ℕ) → Type 0
-Leafy is_v need = (c : ℕ) → is_v c ≡ true → need c ≡ 0
