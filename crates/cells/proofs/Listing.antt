@@ -36,12 +36,12 @@ pub index_le : (us : List ℕ) (v : ℕ) → index us v ≤ length us
 index_le [] v = omega arith
 index_le (u ∷ us) v = let h = index_le us v in grind arith
 
+pub index_is : (us : List ℕ) (v : ℕ) → index us v ≡ position_or_len (λ u. eqb u v) us
+index_is us v = is_position_or_len (λ ws. index ws v) (λ u. eqb u v) refl (λ u ws. ap (λ n. cond (eqb u v) 0 n) (omega arith)) us
+
 -- where v stands, or how long the list is
 pub index_position : (us : List ℕ) (v : ℕ) → unwrap_or (position (λ u. eqb u v) us) (length us) ≡ index us v
-index_position us v =
-    let e : position_or_len (λ u. eqb u v) us ≡ index us v = sym (is_position_or_len (λ ws. index ws v) (λ u. eqb u v) refl (λ u ws. ap (λ n. cond (eqb u v) 0 n) (omega arith)) us) in
-    let l = index_le us v in
-    grind (arith, common_steps)
+index_position us v = let e = index_is us v in let l = index_le us v in grind (arith, common_steps)
 
 -- what stands in a list stands there still in a longer one
 pub index_append : (us ws : List ℕ) (v : ℕ) → Listed us v → index (us ++ ws) v ≡ index us v

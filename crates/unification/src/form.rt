@@ -1,7 +1,8 @@
 // A common form as it is written.
-ghost use Rattle.std.specs.Prelude.{◌≡◌, ◌==◌, ◌<◌, ◌≤◌, [], ◌∷◌, ◌++◌, length, position, MatchResult, IfOk};
+ghost use Rattle.std.specs.Prelude.{◌≡◌, ◌<◌, ◌≤◌, [], ◌∷◌, ◌++◌, length, MatchResult, IfOk};
 
 use arrayvec::ArrayVec;
+use cells::place_of;
 
 // The form has more than 256 cells or 64 variables.
 #[derive(Clone, Copy, PartialEq, Eq)]
@@ -47,17 +48,10 @@ impl Form {
         ensures cells { self.new.cells ≡ self.old.cells }
     {
         let next = self.names.len() as u32;
-        if let Some(i) = place_among(self.names.as_slice(), variable) {
+        if let Some(i) = place_of(self.names.as_slice(), variable) {
             return Ok(i as u32);
         }
         self.names.try_push(variable).map_err(|_| TooLarge)?;
         Ok(next)
     }
-}
-
-// Where a variable stands among those met.
-fn place_among(met: &[u32], variable: u32) -> Option<usize>
-    ensures { result ≡ position (λ w. w == variable) met.now }
-{
-    met.iter().position(|name| *name == variable)
 }
