@@ -4,8 +4,8 @@ use Rattle.unification.specs.declared.form.Form.{Form}
 use Rattle.unification.specs.declared.form.TooLarge.{TooLarge}
 use Rattle.unification.specs.Graph.{Graph, Links, Sols, Made, norm, val, Closed, Sol}
 use Rattle.unification.specs.Graph.Sols.{none, more}
-use Rattle.unification.specs.Close.{Out, General, Solved}
-use Rattle.unification.specs.Number.{number, after, Over, Written, Wrote, Common}
+use Rattle.unification.specs.Close.{Out, MostGeneral, Solved}
+use Rattle.unification.specs.Number.{number, after, Over, RowWritten, Wrote, FormFound}
 use Rattle.unification.proofs.GraphLaws.{Laws}
 use Rattle.unification.proofs.SolFacts.{sols_unique, sol_node, sol_whole, sol_solves, sol_general}
 use Rattle.unification.proofs.SolveFacts.{row_of, row_of_sol}
@@ -20,7 +20,7 @@ module _ (G : Graph) (W : Laws G) (p q : ℕ) (L : Links) where
   sols_made (more {p = i} {a = a} {b = b} s t) = ((norm G L i, refl), made_append a b (sols_made s) (sols_made t))
 
   -- closed links that give each variable a row give a most general replacement
-  pub found : Out G [] L (p ∷ []) (q ∷ []) true → Solved G L → (g : General G p q) × Sol G L p (val G g.σ p) × Made G (val G g.σ p)
+  pub found : Out G [] L (p ∷ []) (q ∷ []) true → Solved G L → (g : MostGeneral G p q) × Sol G L p (val G g.σ p) × Made G (val G g.σ p)
   found O S = (g, here, sols_made here)
     where
       closed : Closed G L L
@@ -29,7 +29,7 @@ module _ (G : Graph) (W : Laws G) (p q : ℕ) (L : Links) where
       σ : ℕ → List ℕ
       σ = row_of G W L S
 
-      g : General G p q
+      g : MostGeneral G p q
       g = record {
         σ = σ;
         whole = sol_whole G L W closed σ (row_of_sol G W L S);
@@ -40,7 +40,7 @@ module _ (G : Graph) (W : Laws G) (p q : ℕ) (L : Links) where
       here : Sol G L p (val G σ p)
       here = sol_node G L W closed σ (row_of_sol G W L S) (length (G.term p)) p (le_refl _)
 
-  pub form_some : Out G [] L (p ∷ []) (q ∷ []) true → Solved G L → (old new : Form) → old.cells.items ≡ [] → old.names.items ≡ [] → Written G L (p ∷ []) old new → Common G p q (Ok (Some new))
+  pub form_some : Out G [] L (p ∷ []) (q ∷ []) true → Solved G L → (old new : Form) → old.cells.items ≡ [] → old.names.items ≡ [] → RowWritten G L (p ∷ []) old new → FormFound G p q (Ok (Some new))
   form_some O S old new c m R =
       let (g, here, made) = found O S in
       let e : R.row ≡ val G g.σ p = sols_unique G L R.sols here in
@@ -53,7 +53,7 @@ module _ (G : Graph) (W : Laws G) (p q : ℕ) (L : Links) where
         few = subst (λ x. length x ≤ 64) names new.few;
       }
 
-  pub form_over : (e e' : TooLarge) → Out G [] L (p ∷ []) (q ∷ []) true → Solved G L → (old new : Form) → old.cells.items ≡ [] → old.names.items ≡ [] → Wrote G L (p ∷ []) old new (Err e) → Common G p q (Err e')
+  pub form_over : (e e' : TooLarge) → Out G [] L (p ∷ []) (q ∷ []) true → Solved G L → (old new : Form) → old.cells.items ≡ [] → old.names.items ≡ [] → Wrote G L (p ∷ []) old new (Err e) → FormFound G p q (Err e')
   form_over e e' O S old new c m R =
       let (g, here, made) = found O S in
       record { g = g; made = made; over = subst₂ (λ x y. Over G.is_v x y (val G g.σ p)) c m (R (val G g.σ p) here) }

@@ -14,7 +14,7 @@ use Rattle.unification.specs.Codes.{tagged, code}
 use Rattle.unification.specs.Rows.{put}
 use Rattle.unification.specs.Graph.{val}
 use Rattle.unification.specs.Memory.{need, term_at, Memory, over}
-use Rattle.unification.specs.Close.{General, Decides}
+use Rattle.unification.specs.Close.{MostGeneral, Decided}
 use Rattle.unification.specs.Number as number
 use Rattle.unification.specs.Forms.{Formed}
 use Rattle.unification.proofs.RelFacts.{first, second, two_rows, relates}
@@ -31,7 +31,7 @@ module _ (l f : List ℕ) (p : AllCells l) (q : AllCells f) (u : Whole (row l)) 
   two : term_at (map (tagged 0x90000000) (row l) ++ f) (length (map (tagged 0x90000000) (row l))) ≡ map (tagged 0x80000000) (row f)
   two = second all_kinds (map (tagged 0x90000000) (row l)) f (left_wholes l p u) (right_wholes f q v) h ∙ sym (tagged_same f)
 
-  module _ (g : General (over all_kinds (map (tagged 0x90000000) (row l) ++ f)) 0 (length (map (tagged 0x90000000) (row l))))
+  module _ (g : MostGeneral (over all_kinds (map (tagged 0x90000000) (row l) ++ f)) 0 (length (map (tagged 0x90000000) (row l))))
       (m : AllPlain (val (over all_kinds (map (tagged 0x90000000) (row l) ++ f)) g.σ 0)) where
     common_of : Common (row l) (row f) (form_of (val (over all_kinds (map (tagged 0x90000000) (row l) ++ f)) g.σ 0))
     common_of =
@@ -44,7 +44,7 @@ module _ (l f : List ℕ) (p : AllCells l) (q : AllCells f) (u : Whole (row l)) 
         ∙ ap (put bound τ) one)
         (subst (λ x. AllPlain (put bound g.σ x)) one m))
 
-  pub formed : (r : Result (Option Form) TooLarge) → number.Common (over all_kinds (map (tagged 0x90000000) (row l) ++ f)) 0 (length (map (tagged 0x90000000) (row l))) r
+  pub formed : (r : Result (Option Form) TooLarge) → number.FormFound (over all_kinds (map (tagged 0x90000000) (row l) ++ f)) 0 (length (map (tagged 0x90000000) (row l))) r
       → Formed (row l) (row f) r
   formed (Ok None) C = λ (σ, τ, c, a, b).
       C (joint σ τ) (λ x k. joint_whole σ τ a.whole b.whole x)
@@ -79,19 +79,19 @@ module _ (l f mem : List ℕ) (e : mem ≡ map (tagged 0x90000000) (row l) ++ f)
   pub memory_holds : Memory mem
   memory_holds = subst Memory (sym e) (two_rows (map (tagged 0x90000000) (row l)) f (left_wholes l p u) (right_wholes f q v) low)
 
-  pub memory_formed : (r : Result (Option Form) TooLarge) → number.Common (over all_kinds mem) 0 (length l) r → Formed (row l) (row f) r
+  pub memory_formed : (r : Result (Option Form) TooLarge) → number.FormFound (over all_kinds mem) 0 (length l) r → Formed (row l) (row f) r
   memory_formed r C =
       formed l f p q u v low r
-      (subst (λ m. number.Common (over all_kinds m) 0 (length (map (tagged 0x90000000) (row l))) r) e
-      (subst (λ n. number.Common (over all_kinds mem) 0 n r) (sym (left_length l f mem e)) C))
+      (subst (λ m. number.FormFound (over all_kinds m) 0 (length (map (tagged 0x90000000) (row l))) r) e
+      (subst (λ n. number.FormFound (over all_kinds mem) 0 n r) (sym (left_length l f mem e)) C))
 
-  pub memory_decided : (r : Bool) → Decides (over all_kinds mem) 0 (length l) r → prelude.Decides r (Unifiable (row l) (row f))
+  pub memory_decided : (r : Bool) → Decided (over all_kinds mem) 0 (length l) r → prelude.Decides r (Unifiable (row l) (row f))
   memory_decided r D =
       unified (row l) (row f) (low_row l p) (low_row f q) r
       (subst (λ y. Relates bound need (map (tagged 0x90000000) (row l)) y r) (sym (tagged_same f))
       (relates all_kinds (map (tagged 0x90000000) (row l)) f (left_wholes l p u) (right_wholes f q v) low r
-      (subst (λ m. Decides (over all_kinds m) 0 (length (map (tagged 0x90000000) (row l))) r) e
-      (subst (λ n. Decides (over all_kinds mem) 0 n r) (sym (left_length l f mem e)) D))))
+      (subst (λ m. Decided (over all_kinds m) 0 (length (map (tagged 0x90000000) (row l))) r) e
+      (subst (λ n. Decided (over all_kinds mem) 0 n r) (sym (left_length l f mem e)) D))))
 
 -- of checked rows
 module _ (x : Row 60) (y : Row 256) (mem : List ℕ) (e : mem ≡ map (tagged 0x90000000) (row (row_words x)) ++ row_words y) where
@@ -105,12 +105,12 @@ module _ (x : Row 60) (y : Row 256) (mem : List ℕ) (e : mem ≡ map (tagged 0x
   pair_memory = memory_holds (row_words x) (row_words y) mem e x.good y.good x.whole y.whole short
 
   module _ (kinds : Kinds) (n : ℕ) (ek : kinds ≡ all_kinds) (en : n ≡ length (row_words x)) where
-    pub pair_decided : (r : Bool) → Decides (over kinds mem) 0 n r → prelude.Decides r (Unifiable (row (row_words x)) (row (row_words y)))
+    pub pair_decided : (r : Bool) → Decided (over kinds mem) 0 n r → prelude.Decides r (Unifiable (row (row_words x)) (row (row_words y)))
     pair_decided r D =
         memory_decided (row_words x) (row_words y) mem e x.good y.good x.whole y.whole short r
-        (subst₂ (λ k n. Decides (over k mem) 0 n r) ek en D)
+        (subst₂ (λ k n. Decided (over k mem) 0 n r) ek en D)
 
-    pub pair_formed : (r : Result (Option Form) TooLarge) → number.Common (over kinds mem) 0 n r → Formed (row (row_words x)) (row (row_words y)) r
+    pub pair_formed : (r : Result (Option Form) TooLarge) → number.FormFound (over kinds mem) 0 n r → Formed (row (row_words x)) (row (row_words y)) r
     pair_formed r C =
         memory_formed (row_words x) (row_words y) mem e x.good y.good x.whole y.whole short r
-        (subst₂ (λ k n. number.Common (over k mem) 0 n r) ek en C)
+        (subst₂ (λ k n. number.FormFound (over k mem) 0 n r) ek en C)

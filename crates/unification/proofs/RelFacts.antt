@@ -4,7 +4,7 @@ use lib.Seq.{drop-append_seam}
 use Rattle.unification.specs.declared.kinds.Kinds.{Kinds}
 use Rattle.unification.specs.Rows.{Wholes, put}
 use Rattle.unification.specs.Memory.{need, binds, size, or_var, from, term_at, Memory, over}
-use Rattle.unification.specs.Close.{Decides}
+use Rattle.unification.specs.Close.{Decided}
 use Rattle.unification.proofs.RowFacts.{wholes_append}
 use Rattle.unification.proofs.BridgeFacts.{Relates}
 use Rattle.unification.proofs.MemFacts.{low_var, suffix_has}
@@ -39,7 +39,7 @@ module _ (kinds : Kinds) (a b : List ℕ) (u : Wholes need 1 a) (v : Wholes need
       let z : length a < 0x80000000 = omega (arith, length-append a b) in
       term_stands (a ++ b) (length a) b [] z (drop-append_seam a b ∙ sym (append-nil b)) v
 
-  pub relates : (x : Bool) → Decides (over kinds (a ++ b)) 0 (length a) x → Relates (binds kinds) need a b x
+  pub relates : (x : Bool) → Decided (over kinds (a ++ b)) 0 (length a) x → Relates (binds kinds) need a b x
   relates x D = record {
     yes = λ e.
         let g = D.yes e in

@@ -3,7 +3,7 @@ use Rattle.std.proofs.Common.{◌≡◌, ℕ, zero, suc, ◌+◌, ◌<◌, ◌�
 use Rattle.std.proofs.lemmas.Bool.{eqb-true, eqb-false}
 use Rattle.unification.specs.Graph.{Graph, Links, find, canon, norm, In, val, SameVal, Sat, Sols, Sol, Made}
 use Rattle.unification.specs.Graph.Sols.{none, more}
-use Rattle.unification.specs.Close.{Place, Fit, Out, WholeFor, General, Solved}
+use Rattle.unification.specs.Close.{Place, Fit, Out, WholeFor, MostGeneral, Solved}
 use Rattle.unification.proofs.GraphLaws.{Laws}
 use Rattle.unification.proofs.LinkFacts.{kids_none, norm_val}
 use Rattle.unification.proofs.StepFacts.{val_sym, inside}
@@ -148,10 +148,10 @@ module _ (G : Graph) (W : Laws G) (L : Links) (τ : ℕ → List ℕ) (h : Sat G
 
 -- so rows that some replacement makes one have a most general such replacement
 pub general_exists : (G : Graph) → Laws G → (n : ℕ) → ((x : ℕ) → x < n → Below n (G.kids x)) → (p q : ℕ) → p < n → q < n → (τ : ℕ → List ℕ) → WholeFor G τ → SameVal G τ p q
-    → (g : General G p q) × Made G (val G g.σ p)
+    → (g : MostGeneral G p q) × Made G (val G g.σ p)
 general_exists G W n inner p q hp hq τ w e = by (run G W n n inner n (p ∷ []) (q ∷ []) [] (fit_none G n n (le_refl n)) (omega arith) (hp, tt) (hq, tt) refl)
   where
-    by : (M : Links) × (r : Bool) × Fit G n n M × Out G [] M (p ∷ []) (q ∷ []) r → (g : General G p q) × Made G (val G g.σ p)
+    by : (M : Links) × (r : Bool) × Fit G n n M × Out G [] M (p ∷ []) (q ∷ []) r → (g : MostGeneral G p q) × Made G (val G g.σ p)
     by (M, false, E, O) = absurd (O.refutes refl τ w tt (e, tt))
     by (M, true, E, O) =
         let (g, here, made) = found G W p q M O (solved_by G W M τ (O.keeps refl τ w tt (e, tt))) in

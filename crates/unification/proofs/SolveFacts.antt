@@ -3,7 +3,7 @@ use Rattle.std.proofs.Common.{◌≡◌, ℕ, zero, suc, ◌<◌, Bool, true, fa
 use Rattle.std.proofs.lemmas.Bool.{eqb-true, eq-eqb}
 use Rattle.unification.specs.Graph.{Graph, Links, follow, find, canon, norm, Joined, Sat, Closed, Sols, Sol}
 use Rattle.unification.specs.Graph.Sols.{none, more}
-use Rattle.unification.specs.Close.{Place, is_between, Out, Solved, Decides}
+use Rattle.unification.specs.Close.{Place, is_between, Out, Solved, Decided}
 use Rattle.unification.proofs.GraphLaws.{Laws}
 use Rattle.unification.proofs.LinkFacts.{kids_none, follow_miss}
 use Rattle.unification.proofs.FitFacts.{between_parts}
@@ -71,10 +71,10 @@ module _ (G : Graph) (W : Laws G) (L : Links) where
 
 -- the whole decision: closed from nothing, and with a row for each variable, or with none
 module _ (G : Graph) (W : Laws G) (p q : ℕ) (L : Links) where
-  pub decide_never : Out G [] L (p ∷ []) (q ∷ []) true → ((σ : ℕ → List ℕ) → Sat G σ L → ⊥) → Decides G p q false
+  pub decide_never : Out G [] L (p ∷ []) (q ∷ []) true → ((σ : ℕ → List ℕ) → Sat G σ L → ⊥) → Decided G p q false
   decide_never O f = record { yes = λ e. true_not e refl; no = λ e σ w h. f σ (O.keeps refl σ w tt (h, tt)) }
 
-  pub decide_yes : Out G [] L (p ∷ []) (q ∷ []) true → Solved G L → Decides G p q true
+  pub decide_yes : Out G [] L (p ∷ []) (q ∷ []) true → Solved G L → Decided G p q true
   decide_yes O S = record {
     yes = λ e. record {
       σ = row_of G W L S;
@@ -88,6 +88,6 @@ module _ (G : Graph) (W : Laws G) (p q : ℕ) (L : Links) where
       closed : Closed G L L
       closed = subst (Closed G L) (sym O.grown) (O.closed refl)
 
-  pub decide : Out G [] L (p ∷ []) (q ∷ []) true → (r : Bool) → (r ≡ true → Solved G L) → (r ≡ false → (σ : ℕ → List ℕ) → Sat G σ L → ⊥) → Decides G p q r
+  pub decide : Out G [] L (p ∷ []) (q ∷ []) true → (r : Bool) → (r ≡ true → Solved G L) → (r ≡ false → (σ : ℕ → List ℕ) → Sat G σ L → ⊥) → Decided G p q r
   decide O true y f = decide_yes O (y refl)
   decide O false y f = decide_never O (f refl)

@@ -5,7 +5,7 @@ use Rattle.unification.specs.declared.form.TooLarge.{TooLarge}
 use Rattle.unification.specs.Graph.{Graph, Links, norm, Sols}
 use Rattle.unification.specs.Graph.Sols.{none, more}
 use Rattle.cells.specs.Variables.{index, include}
-use Rattle.unification.specs.Number.{met, number, after, Over, Written, Wrote}
+use Rattle.unification.specs.Number.{met, number, after, Over, RowWritten, Wrote}
 use Rattle.unification.proofs.GraphLaws.{Laws}
 use Rattle.unification.proofs.LinkFacts.{kids_none}
 use Rattle.unification.proofs.SolFacts.{sols_unique}
@@ -108,7 +108,7 @@ module _ (G : Graph) (W : Laws G) (L : Links) where
       same : met G.is_v old.names.items (G.cell x) ≡ one.names.items
       same = ap (λ b. cond b (include old.names.items (G.cell x)) old.names.items) s ∙ sym m
 
-      pub first_sym : Written G L (G.kids x) one mid → First mid
+      pub first_sym : RowWritten G L (G.kids x) one mid → First mid
       first_sym R = record {
         row = R.row;
         sols = R.sols;

@@ -40,7 +40,7 @@ pub record Out (G : Graph) (L M : Links) (ps qs : List ℕ) (r : Bool) : Type 0 
   pub refutes : r ≡ false → (σ : ℕ → List ℕ) → WholeFor G σ → Sat G σ L → Pairs (SameVal G σ) ps qs → ⊥
 
 -- a replacement that makes one row of the rows at p and q, such that each other such replacement makes instances of what it makes
-pub record General (G : Graph) (p q : ℕ) : Type 0 where
+pub record MostGeneral (G : Graph) (p q : ℕ) : Type 0 where
   pub σ : ℕ → List ℕ
   pub whole : WholeFor G σ
   pub solves : SameVal G σ p q
@@ -50,6 +50,6 @@ abbrev pub Solved : Graph → Links → Type 0
 Solved G L = (c : ℕ) → G.is_v c ≡ true → (row : List ℕ) × Sol G L c row
 
 -- the answer of a decision with its reason on both sides
-pub record Decides (G : Graph) (p q : ℕ) (r : Bool) : Type 0 where
-  pub yes : r ≡ true → General G p q
+pub record Decided (G : Graph) (p q : ℕ) (r : Bool) : Type 0 where
+  pub yes : r ≡ true → MostGeneral G p q
   pub no : r ≡ false → (σ : ℕ → List ℕ) → WholeFor G σ → SameVal G σ p q → ⊥

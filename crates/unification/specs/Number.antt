@@ -4,7 +4,7 @@ use Rattle.cells.specs.Variables.{index, include}
 use Rattle.unification.specs.declared.form.Form.{Form}
 use Rattle.unification.specs.declared.form.TooLarge.{TooLarge}
 use Rattle.unification.specs.Graph.{Graph, Links, Sols, Made, val, SameVal}
-use Rattle.unification.specs.Close.{WholeFor, General}
+use Rattle.unification.specs.Close.{WholeFor, MostGeneral}
 
 -- the variables met, with the cell if it is one
 abbrev pub met : (ℕ → Bool) → List ℕ → ℕ → List ℕ
@@ -23,7 +23,7 @@ abbrev pub Over : (ℕ → Bool) → List ℕ → List ℕ → List ℕ → Type
 Over is_v cells ms row = (256 < length cells + length row) ⊎ (64 < length (after is_v ms row))
 
 -- the row of the places is written behind the form, with its variables numbered
-pub record Written (G : Graph) (L : Links) (ps : List ℕ) (old new : Form) : Type 0 where
+pub record RowWritten (G : Graph) (L : Links) (ps : List ℕ) (old new : Form) : Type 0 where
   pub row : List ℕ
   pub sols : Sols G L ps row
   pub text : new.cells.items ≡ old.cells.items ++ number G.is_v old.names.items row
@@ -31,12 +31,12 @@ pub record Written (G : Graph) (L : Links) (ps : List ℕ) (old new : Form) : Ty
 
 -- or there is no room for it
 abbrev pub Wrote : Graph → Links → List ℕ → Form → Form → Result (Unit {0}) TooLarge → Type 0
-Wrote G L ps old new (Ok u) = Written G L ps old new
+Wrote G L ps old new (Ok u) = RowWritten G L ps old new
 Wrote G L ps old new (Err e) = (row : List ℕ) → Sols G L ps row → Over G.is_v old.cells.items old.names.items row
 
 -- the numbered row of a most general replacement is written
 pub record Numbered (G : Graph) (p q : ℕ) (cells : List ℕ) : Type 0 where
-  pub g : General G p q
+  pub g : MostGeneral G p q
   pub made : Made G (val G g.σ p)
   pub text : cells ≡ number G.is_v [] (val G g.σ p)
   pub within : length cells ≤ 256
@@ -44,12 +44,12 @@ pub record Numbered (G : Graph) (p q : ℕ) (cells : List ℕ) : Type 0 where
 
 -- or passes 256 cells or 64 variables
 pub record Passes (G : Graph) (p q : ℕ) : Type 0 where
-  pub g : General G p q
+  pub g : MostGeneral G p q
   pub made : Made G (val G g.σ p)
   pub over : Over G.is_v [] [] (val G g.σ p)
 
 -- or no replacement makes one row of p and q
-abbrev pub Common : Graph → ℕ → ℕ → Result (Option Form) TooLarge → Type 0
-Common G p q (Ok None) = (σ : ℕ → List ℕ) → WholeFor G σ → SameVal G σ p q → ⊥
-Common G p q (Ok (Some form)) = Numbered G p q form.cells.items
-Common G p q (Err e) = Passes G p q
+abbrev pub FormFound : Graph → ℕ → ℕ → Result (Option Form) TooLarge → Type 0
+FormFound G p q (Ok None) = (σ : ℕ → List ℕ) → WholeFor G σ → SameVal G σ p q → ⊥
+FormFound G p q (Ok (Some form)) = Numbered G p q form.cells.items
+FormFound G p q (Err e) = Passes G p q

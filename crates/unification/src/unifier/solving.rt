@@ -1,7 +1,7 @@
 // Unifying two rows of the memory, and their common form.
 ghost use Rattle.std.specs.Prelude.{◌≡◌, ◌<◌, true, [], ◌∷◌, length};
-ghost use Rattle.unification.specs.Close.{Out, Solved, Decides};
-ghost use Rattle.unification.specs.Number.{Common};
+ghost use Rattle.unification.specs.Close.{Out, Solved, Decided};
+ghost use Rattle.unification.specs.Number.{FormFound};
 ghost use Rattle.unification.specs.Unifiers.{graph_of, size_of, links_of};
 
 use super::Unifier;
@@ -15,7 +15,7 @@ impl Unifier<'_> {
         requires links { links_of self.old ≡ [] }
         ensures cells { self.new.cells ≡ self.old.cells }
         ensures kinds { self.new.kinds ≡ self.old.kinds }
-        ensures decides { Decides (graph_of self.old) p q result }
+        ensures decides { Decided (graph_of self.old) p q result }
         ensures out { result ≡ true → Out (graph_of self.old) [] (links_of self.new) (p ∷ []) (q ∷ []) true }
         ensures solved { result ≡ true → Solved (graph_of self.old) (links_of self.new) }
     {
@@ -27,7 +27,7 @@ impl Unifier<'_> {
         requires left { p < size_of self.old }
         requires right { q < size_of self.old }
         requires links { links_of self.old ≡ [] }
-        ensures { Common (graph_of self.old) p q result }
+        ensures { FormFound (graph_of self.old) p q result }
     {
         if !self.unify(p, q) {
             return Ok(None);

@@ -1,7 +1,7 @@
 use Rattle.std.proofs.Common.{◌≡◌, [], ◌∷◌, Ok, sym, refl, subst, arith}
 use Rattle.std.proofs.lemmas.Grind.{common_steps}
 use Rattle.std.proofs.lemmas.Result.{err_from_is_err_and}
-use Rattle.unification.specs.Number.{Wrote, Common}
+use Rattle.unification.specs.Number.{Wrote, FormFound}
 use Rattle.unification.specs.Unifiers.{graph_of}
 use Rattle.unification.proofs.DownFacts.{law_of, same_graph}
 use Rattle.unification.proofs.FormFacts.{form_some, form_over}
@@ -23,7 +23,7 @@ returns-in_err-write_rows c =
     let G = graph_of u in
     let L = c.unify.new.self.links.items in
     let e = err_from_is_err_and c.from_residual.result c.from_residual.ensures.1 in
-    subst (Common G c.args.p c.args.q) (sym e.1)
+    subst (FormFound G c.args.p c.args.q) (sym e.1)
     (form_over G (law_of u) c.args.p c.args.q L c.in_err-write_rows.field-0.0 e.0 (c.if-not-unify.ensures.out refl) (c.if-not-unify.ensures.solved refl)
     c.new-form.result c.write_rows.new.form c.new-form.ensures.cells c.new-form.ensures.names
     (subst (Wrote G L (c.args.p ∷ []) c.new-form.result c.write_rows.new.form) (c.in_err-write_rows.was) (wrote (goal.at.returns-in_err-write_rows c).After-write_rows)))
