@@ -54,5 +54,8 @@ counts_collect us vs (variable v ∷ cs) h e =
 pub counting : (cs : List Cell) → counts_from 0 (variables (normalized cs)) ≡ true
 counting cs = (counts_collect [] [] cs refl refl).0
 
+pub length_normalized : (cs : List Cell) → length (variables (normalized cs)) ≡ length (variables cs)
+length_normalized cs = (counts_collect [] [] cs refl refl).1
+
 pub normal_counts : (cs : List Cell) → normalized cs ≡ cs → counts_from 0 (variables cs) ≡ true
 normal_counts cs e = subst (λ z. counts_from 0 (variables z) ≡ true) e (counting cs)

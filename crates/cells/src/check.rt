@@ -19,14 +19,15 @@ pub fn term_end(cells: &[u32], at: usize) -> Option<usize>
     ensures { Ends cells.now at result }
 {
     let rest = cells.get(at..)?;
-    // how many rows are still to come; the cells left must be as many
-    let mut need = 1;
+    // the cells still to come, less one for each row still to come
+    let mut spare = rest.len().checked_sub(1)?;
     for (i, w) in rest.iter().enumerate() {
-        need = need - 1 + arity_of(*w);
-        if need > rest.len() - (i + 1) {
+        let more = arity_of(*w);
+        if more > spare {
             return None;
         }
-        if need == 0 {
+        spare -= more;
+        if spare == rest.len() - (i + 1) {
             return Some(at + i + 1);
         }
     }

@@ -16,6 +16,7 @@ pub fn place_of(list: &[u32], v: u32) -> Option<usize>
 }
 
 // Whether the word is a variable that the list lacks.
+#[inline(always)]
 fn lacks(names: &[u32], w: u32) -> bool
     ensures { result ≡ lacking names.now w }
 {
