@@ -28,10 +28,14 @@ longer_more b b' b'' m n k x y l = record {
 pub cut_back : (b b' : List Binding) (n : ℕ) → Longer b n b' → take (length b) b' ≡ b
 cut_back b b' n h = ap (take (length b)) h.is ∙ take_at b h.more (length b) refl
 
--- what is looked up in a list with one binding more
+-- what is looked up in a list with bindings added behind
+lookup_append : (b es : List Binding) (u : ℕ) → lookup (b ++ es) u ≡ cond (is_some (lookup b u)) (lookup b u) (lookup es u)
+lookup_append [] es u = refl
+lookup_append (x ∷ b) es u = grind (arith, common_steps, lookup_append b es u)
+
+-- and with one more
 lookup_push : (b : List Binding) (w : ℕ) (p : Part) (u : ℕ) → lookup (b ++ binding w p ∷ []) u ≡ cond (is_some (lookup b u)) (lookup b u) (cond (eqb w u) (Some p) None)
-lookup_push [] w p u = refl
-lookup_push (x ∷ b) w p u = grind (arith, common_steps, lookup_push b w p u)
+lookup_push b w p u = lookup_append b (binding w p ∷ []) u
 
 module _ (source : List ℕ) (b : List Binding) (w : ℕ) (p : Part) (none : lookup b w ≡ None) where
   pub whole_push : Whole (part source p) → AllWhole source b → AllWhole source (b ++ binding w p ∷ [])

@@ -1,20 +1,18 @@
 // The binding of a variable.
-ghost use Rattle.std.specs.Prelude.{◌≡◌, ◌<◌, ◌≤◌, length, MatchOption};
-ghost use Rattle.cells.specs.Cells.{row};
+ghost use Rattle.std.specs.Prelude.{◌≡◌, ◌<◌, length, MatchOption};
+ghost use Rattle.cells.specs.Cells.{cell, row};
 ghost use Rattle.cells.specs.Rows.{Occurs};
 ghost use Rattle.matching.specs.Relations.{General};
 ghost use Rattle.matching.specs.Named.{asked_for};
 ghost use Rattle.matching.specs.Pairs.{PairHeld};
-ghost use Rattle.matching.specs.Walking.{Reached};
+ghost use Rattle.matching.specs.Walking.{Passed, Reached};
 ghost use Rattle.matching.specs.Bound.{First, Binds, AskedBinding, BindingAnswer};
 
 use crate::deciding::{is_general, is_instance, is_variant};
 use crate::fault::MatchFault;
-use crate::matcher::match_front;
 use crate::pair::{CheckedPair, check_pair};
 use crate::relation::Relation;
 use cells::{FormulaVar, RuleVar, VARIABLE, term_end};
-use substitution::Bindings;
 
 // The relation and the variable that a binding is asked for. The kind of the variable follows the relation.
 #[derive(Clone, Copy)]
@@ -55,22 +53,35 @@ fn first_place(pattern: &[u32], v: u32) -> Option<usize>
         .position(|w| w.checked_sub(VARIABLE) == Some(v))
 }
 
+// Where the part ends that a cell of a pattern becomes at a position, if its variable is bound to nothing else.
+#[tactic(auto, using(crate::proofs::Walking::passing))]
+fn pass(w: u32, target: &[u32], at: usize) -> Option<usize>
+    ensures { Passed target.now (cell w) at result }
+{
+    if w < VARIABLE {
+        return (*target.get(at)? == w).then_some(at + 1);
+    }
+    term_end(target, at)
+}
+
 // Where what is put for the pattern's cell at `k` begins, if the pattern is general for the target.
 #[tactic(auto, using(crate::proofs::Walking::places))]
 fn place(pattern: &[u32], k: usize, target: &[u32]) -> usize
     requires inside { k < length pattern.now }
-    requires short { length pattern.now ≤ 256 }
     requires holds { General (row pattern.now) (row target.now) }
     ensures { Reached (row pattern.now) target.now k result }
 {
-    match_front(&pattern[..k], target, 0, &mut Bindings::none()).unwrap()
+    let mut at = 0;
+    for w in &pattern[..k] {
+        at = pass(*w, target, at).unwrap();
+    }
+    at
 }
 
 // The part of the target that the variable is bound to.
 #[tactic(auto, using(crate::proofs::Walking::places))]
 fn bound<'a>(pattern: &[u32], v: u32, target: &'a [u32]) -> Option<Found<'a>>
-    requires short { length pattern.now ≤ 256 }
-    requires holds { General (row pattern.now) (row target.now) }
+    requires { General (row pattern.now) (row target.now) }
     ensures { Binds (row pattern.now) target.now v result }
 {
     let k = first_place(pattern, v)?;

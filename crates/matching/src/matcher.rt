@@ -1,5 +1,5 @@
 // One-sided matching: what has to be put for the variables of a pattern so that it becomes a given row.
-ghost use Rattle.std.specs.Prelude.{◌≡◌, ◌+◌, ◌<◌, ◌≤◌, [], ◌∷◌, length};
+ghost use Rattle.std.specs.Prelude.{◌≡◌, ◌+◌, ◌<◌, ◌≤◌, [], ◌∷◌, length, IfSome};
 ghost use Rattle.cells.specs.Cells.{cell, row};
 ghost use Rattle.substitution.specs.Bindings.{bindings_list};
 ghost use Rattle.matching.specs.Fronts.{FrontMatched, Fits};
@@ -11,7 +11,8 @@ use substitution::{Bindings, Part, Trial, clipped};
 #[tactic(auto, using(crate::proofs::Stepping::steps))]
 fn extend_by(w: u32, target: &[u32], at: usize, list: &mut Bindings) -> Option<usize>
     requires room { length (bindings_list list.old) < 256 }
-    ensures { FrontMatched target.now (bindings_list list.old) (cell w ∷ []) at result (bindings_list list.new) }
+    ensures matched { FrontMatched target.now (bindings_list list.old) (cell w ∷ []) at result (bindings_list list.new) }
+    ensures inside { IfSome result (λ end. end ≤ length target.now) }
 {
     if w < VARIABLE {
         return (*target.get(at)? == w).then_some(at + 1);
