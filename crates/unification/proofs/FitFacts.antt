@@ -113,11 +113,11 @@ between_parts G n l L h =
     let b = and_parts (is_place G n l.0) (is_place G n l.1) a.0 in
     (b.0, b.1, a.1)
 
-between_more : (G : Graph) (n : ℕ) (L : Links) (x y : ℕ) → is_between G n L ≡ true → Place G n x → Place G n y → is_between G n (L ++ ((x, y) ∷ [])) ≡ true
-between_more G n [] x y h p q = and_from (is_place G n x && is_place G n y) true (and_from (is_place G n x) (is_place G n y) p q) refl
-between_more G n (l ∷ L) x y h p q =
+pub ends_append : (G : Graph) (n : ℕ) (L M : Links) → is_between G n L ≡ true → is_between G n M ≡ true → is_between G n (L ++ M) ≡ true
+ends_append G n [] M h g = g
+ends_append G n (l ∷ L) M h g =
     let a = and_parts (is_place G n l.0 && is_place G n l.1) (is_between G n L) h in
-    and_from (is_place G n l.0 && is_place G n l.1) (is_between G n (L ++ ((x, y) ∷ []))) a.0 (between_more G n L x y a.1 p q)
+    and_from (is_place G n l.0 && is_place G n l.1) (is_between G n (L ++ M)) a.0 (ends_append G n L M a.1 g)
 
 -- what a place comes to is a place
 pub find_place : (G : Graph) (n : ℕ) (L : Links) (a : ℕ) → is_between G n L ≡ true → Place G n a → Place G n (find L a)
@@ -164,7 +164,7 @@ module _ (G : Graph) (n cap : ℕ) (L : Links) (F : Fit G n cap L) (x y : ℕ) (
   pub fit_more : Fit G n cap (L ++ ((x, y) ∷ []))
   fit_more = record {
     again = again_more G L x y ne F.again rx ry;
-    ends = between_more G n L x y F.ends px py;
+    ends = ends_append G n L ((x, y) ∷ []) F.ends (and_from (is_place G n x && is_place G n y) true (and_from (is_place G n x) (is_place G n y) px py) refl);
     room =
         let P = place_at G n x px in
         let f = roots_fall G L x y ne F.again rx ry n P.0 P.1 P.2 in

@@ -54,6 +54,10 @@ module _ (G : Graph) where
   sat_append σ [] M h g = g
   sat_append σ (l ∷ L) M h g = (h.0, sat_append σ L M h.1 g)
 
+  pub sat_left : (σ : ℕ → List ℕ) (L M : Links) → Sat G σ (L ++ M) → Sat G σ L
+  sat_left σ [] M h = tt
+  sat_left σ (l ∷ L) M h = (h.0, sat_left σ L M h.1)
+
   -- a link from a symbol leads on to the same symbol, with joined arguments
   pub closed_find : (K L : Links) (a : ℕ) → Closed G K L → G.is_v (G.cell a) ≡ false → (G.cell a ≡ G.cell (find L a)) × Pairs (Joined G K) (G.kids a) (G.kids (find L a))
   closed_find K [] a h s = (refl, joined_refl K (G.kids a))

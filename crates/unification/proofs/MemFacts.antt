@@ -1,5 +1,5 @@
 -- The places of a memory obey the laws of a graph. Assumes nothing.
-use Rattle.std.proofs.Common.{◌≡◌, ℕ, zero, suc, pred, ◌+◌, ◌-◌, ◌/◌, ◌<◌, Bool, true, false, cond, ◌&&◌, ltb, leb, List, [], ◌∷◌, ◌++◌, length, get_or, take, drop, sym, refl, ap, ◌∙◌, subst, ap₂, add-zero, zero-add, arith, length-drop, get_or-drop, drop-cons, drop-drop, take-add}
+use Rattle.std.proofs.Common.{◌≡◌, ℕ, zero, suc, pred, ◌+◌, ◌-◌, ◌/◌, ◌<◌, ◌≤◌, Bool, true, false, cond, ◌&&◌, ltb, leb, List, [], ◌∷◌, ◌++◌, length, get_or, take, drop, sym, refl, ap, ◌∙◌, subst, ap₂, add-zero, zero-add, arith, length-drop, get_or-drop, drop-cons, drop-drop, take-add}
 use Rattle.std.proofs.lemmas.Bool.{false≢true, lt-ltb, lt-leb}
 use Rattle.cells.specs.Cells.{arity}
 use Rattle.unification.specs.Rows.{Wholes}
@@ -12,6 +12,12 @@ has_all [] zero h = refl
 has_all [] (suc k) h = let z : ⊥ = omega arith in absurd z
 has_all (c ∷ cs) zero h = refl
 has_all (c ∷ cs) (suc k) h = has_all cs (k + need c) h.1
+
+pub has_le : (cs : List ℕ) (k : ℕ) → Has k cs → k ≤ length cs
+has_le [] zero h = omega arith
+has_le [] (suc k) h = absurd (false≢true h)
+has_le (c ∷ cs) zero h = omega arith
+has_le (c ∷ cs) (suc k) h = omega (arith, has_le cs (k + need c) h)
 
 pub has_fewer : (cs : List ℕ) (j k : ℕ) → Has (j + k) cs → Has j cs
 has_fewer [] zero k h = refl

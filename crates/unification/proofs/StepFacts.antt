@@ -1,5 +1,5 @@
 -- What one step of the closing does to the replacements: arguments taken apart, two symbols that differ, and a place inside itself. Assumes nothing.
-use Rattle.std.proofs.Common.{◌≡◌, ℕ, suc, ◌<◌, ◌≤◌, false, cond, List, [], ◌∷◌, ◌++◌, length, sym, refl, ap, ◌∙◌, inl, inr, arith, length-append}
+use Rattle.std.proofs.Common.{◌≡◌, ℕ, suc, ◌<◌, ◌≤◌, false, cond, List, [], ◌∷◌, ◌++◌, length, sym, refl, ap, ap₂, ◌∙◌, inl, inr, arith, length-append}
 use Rattle.unification.specs.Rows.{Wholes, image, put, WholeAt}
 use Rattle.unification.specs.Graph.{Graph, In, Links, Pairs, norm, val, SameVal, Sat}
 use Rattle.unification.proofs.GraphLaws.{Laws, flat}
@@ -15,6 +15,12 @@ flat_split need f w (p ∷ ps) (q ∷ qs) l h =
     let r = wholes_unique need (f p) (f q) (flat f ps) (flat f qs) 1 (w p) (w q) h in
     let l' : length ps ≡ length qs = omega arith in
     (r.0, flat_split need f w ps qs l' r.1)
+
+pub flat_pairs : (f : ℕ → List ℕ) (ps qs : List ℕ) → Pairs (λ p q. f p ≡ f q) ps qs → flat f ps ≡ flat f qs
+flat_pairs f [] [] h = refl
+flat_pairs f [] (q ∷ qs) h = absurd h
+flat_pairs f (p ∷ ps) [] h = absurd h
+flat_pairs f (p ∷ ps) (q ∷ qs) h = ap₂ (λ a b. a ++ b) h.0 (flat_pairs f ps qs h.1)
 
 pub in_flat : (f : ℕ → List ℕ) (q : ℕ) (ps : List ℕ) → In q ps → length (f q) ≤ length (flat f ps)
 in_flat f q [] h = absurd h
@@ -45,6 +51,10 @@ module _ (G : Graph) (W : Laws G) where
       let c = split_cell σ a b s t e in
       let n : length (G.kids a) ≡ length (G.kids b) = W.many a ∙ ap G.need c ∙ sym (W.many b) in
       flat_split G.need (val G σ) (val_whole σ w) (G.kids a) (G.kids b) n (cons_tail (sym (val_sym σ a s) ∙ e ∙ val_sym σ b t))
+
+  -- equal cells with equal arguments are equal rows
+  pub build : (σ : ℕ → List ℕ) (a b : ℕ) → G.cell a ≡ G.cell b → Pairs (SameVal G σ) (G.kids a) (G.kids b) → SameVal G σ a b
+  build σ a b c h = val_is σ a ∙ ap₂ (λ x r. image G.is_v σ x ++ r) c (flat_pairs (val G σ) (G.kids a) (G.kids b) h) ∙ sym (val_is σ b)
 
   -- a place strictly inside another is strictly shorter, whatever is put for the variables
   pub inside : (σ : ℕ → List ℕ) (L : Links) (p q : ℕ) → Sat G σ L → G.is_v (G.cell (norm G L p)) ≡ false → In q (G.kids (norm G L p)) →

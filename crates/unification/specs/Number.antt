@@ -1,5 +1,5 @@
 -- Variables numbered in the order in which a row first has them. Assumes nothing.
-use Rattle.std.specs.Prelude.{◌≡◌, ℕ, ◌+◌, ◌<◌, ◌≤◌, Bool, cond, ◌⊎◌, List, [], ◌∷◌, ◌++◌, length, Some, None, Ok, Err, Option, Result}
+use Rattle.std.specs.Prelude.{◌≡◌, ℕ, ◌+◌, ◌<◌, ◌≤◌, Bool, true, false, cond, ◌⊎◌, List, [], ◌∷◌, ◌++◌, length, Some, None, Ok, Err, Option, Result}
 use Rattle.cells.specs.Variables.{index, include}
 use Rattle.unification.specs.declared.form.Form.{Form}
 use Rattle.unification.specs.declared.form.TooLarge.{TooLarge}
@@ -47,6 +47,12 @@ pub record Passes (G : Graph) (p q : ℕ) : Type 0 where
   pub g : MostGeneral G p q
   pub made : Made G (val G g.σ p)
   pub over : Over G.is_v [] [] (val G g.σ p)
+
+-- the form, if it is said that there is one
+abbrev pub found_in : Form → Result Bool TooLarge → Result (Option Form) TooLarge
+found_in form (Ok true) = Ok (Some form)
+found_in form (Ok false) = Ok None
+found_in form (Err e) = Err e
 
 -- or no replacement makes one row of p and q
 abbrev pub FormFound : Graph → ℕ → ℕ → Result (Option Form) TooLarge → Type 0

@@ -1,8 +1,9 @@
 // Writing the common form of a left side and a formula.
-ghost use Rattle.std.specs.Prelude.{◌≡◌, ◌<◌, ◌≤◌, length, MatchResult};
+ghost use Rattle.std.specs.Prelude.{◌≡◌, ◌<◌, ◌≤◌, [], length, MatchResult};
 ghost use Rattle.cells.specs.Cells.{row};
 ghost use Rattle.cells.specs.Records.{row_words};
 ghost use Rattle.unification.specs.declared.fault.FormFault.TheVariants.{ShortBuffer};
+ghost use Rattle.unification.specs.Number.{found_in};
 ghost use Rattle.unification.specs.Forms.{Formed, FormAnswer};
 ghost use Rattle.unification.specs.FormsOfRows.{RowsFormAnswer};
 
@@ -14,12 +15,14 @@ use crate::unifier::Unifier;
 use cells::{Formula, RuleSide};
 use matching::check_pair;
 
-// The common form in a value of its own, so that the buffer is written only if all of it fits.
-fn form_of(left: &RuleSide, formula: &Formula) -> Result<Option<Form>, TooLarge>
-    ensures { Formed (row (row_words left.now)) (row (row_words formula.now)) result }
+// Whether there is a common form. It is written to a form, which is empty, so that the buffer is written only if all of it fits.
+fn form_of(left: &RuleSide, formula: &Formula, form: &mut Form) -> Result<bool, TooLarge>
+    requires cells { form.old.cells.items ≡ [] }
+    requires names { form.old.names.items ≡ [] }
+    ensures { Formed (row (row_words left.now)) (row (row_words formula.now)) (found_in form.new result) }
 {
     let cells = joined(left, formula);
-    Unifier::new(cells.as_slice(), Kinds::ALL).common_form(0, left.cells().len() as u32)
+    Unifier::new(cells.as_slice(), Kinds::ALL).common_form(0, left.cells().len() as u32, form)
 }
 
 // A buffer with room for fewer than 256 cells is refused, whatever the form.
@@ -41,9 +44,10 @@ pub fn common_form(
     ensures { FormAnswer (row (row_words left.now)) (row (row_words formula.now)) out.old out.new result }
 {
     check_room(out)?;
-    let Some(form) = form_of(left, formula)? else {
+    let mut form = Form::new();
+    if !form_of(left, formula, &mut form)? {
         return Ok(None);
-    };
+    }
     let cells = form.cells.as_slice();
     out[..cells.len()].copy_from_slice(cells);
     Ok(Some(cells.len()))

@@ -32,6 +32,8 @@ impl Unifier<'_> {
         if n == 0 {
             return true;
         }
+        let next_i = self.next(i, n);
+        let next_j = self.next(j, n);
         let (x, c) = self.head(i);
         let (y, d) = self.head(j);
         if x != y {
@@ -48,8 +50,6 @@ impl Unifier<'_> {
                 }
             }
         }
-        let after_i = self.end(i);
-        let after_j = self.end(j);
-        self.unify_rows(after_i, after_j, n - 1)
+        self.unify_rows(next_i, next_j, n - 1)
     }
 }

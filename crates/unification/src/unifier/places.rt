@@ -1,10 +1,10 @@
 // Places, and what stands for them.
-ghost use Rattle.std.specs.Prelude.{◌≡◌, ◌+◌, ◌<◌, ◌≤◌, false, [], length, drop};
+ghost use Rattle.std.specs.Prelude.{◌≡◌, ◌≢◌, ◌+◌, ◌-◌, ◌<◌, ◌≤◌, false, [], ◌∷◌, length, drop};
 ghost use Rattle.unification.specs.Graph.{find, norm};
 ghost use Rattle.unification.specs.Codes.{is_var};
 ghost use Rattle.unification.specs.Memory.{binds, size, Has, cell_at, Memory};
 ghost use Rattle.unification.specs.Close.{Place};
-ghost use Rattle.unification.specs.Unifiers.{graph_of, size_of, links_of, Root};
+ghost use Rattle.unification.specs.Unifiers.{graph_of, size_of, links_of, rows_of, Root};
 
 use super::Unifier;
 use crate::kinds::Kinds;
@@ -77,13 +77,19 @@ impl<'a> Unifier<'a> {
         }
     }
 
-    // The position behind the row at a position.
-    pub(super) fn end(&self, at: u32) -> u32
-        requires { at < size_of self.now }
-        ensures end { result ≡ at + size 1 (drop at self.now.cells.now) }
-        ensures within { result ≤ size_of self.now }
+    // Where the rows behind the first of n begin. There are none behind the last, so its end is not looked for.
+    pub(super) fn next(&self, at: u32, n: usize) -> u32
+        requires low { at < size_of self.now }
+        requires some { n ≢ 0 }
+        requires rows { Has n (drop at self.now.cells.now) }
+        ensures places { rows_of self.now at n ≡ at ∷ rows_of self.now result (n - 1) }
+        ensures rest { Has (n - 1) (drop result self.now.cells.now) }
     {
-        end_at(self.cells, at as usize) as u32
+        if n == 1 {
+            at
+        } else {
+            end_at(self.cells, at as usize) as u32
+        }
     }
 }
 

@@ -1,7 +1,7 @@
 // Unifying two rows of the memory, and their common form.
 ghost use Rattle.std.specs.Prelude.{◌≡◌, ◌<◌, true, [], ◌∷◌, length};
 ghost use Rattle.unification.specs.Close.{Out, Solved, Decided};
-ghost use Rattle.unification.specs.Number.{FormFound};
+ghost use Rattle.unification.specs.Number.{found_in, FormFound};
 ghost use Rattle.unification.specs.Unifiers.{graph_of, size_of, links_of};
 
 use super::Unifier;
@@ -22,18 +22,19 @@ impl Unifier<'_> {
         self.unify_rows(p, q, 1) && self.is_solvable()
     }
 
-    // The common form of the rows at p and q, with its variables numbered, if there is one.
-    pub fn common_form(&mut self, p: u32, q: u32) -> Result<Option<Form>, TooLarge>
+    // Whether the rows at p and q have a common form. With its variables numbered it is written to the form, which is empty.
+    pub fn common_form(&mut self, p: u32, q: u32, form: &mut Form) -> Result<bool, TooLarge>
         requires left { p < size_of self.old }
         requires right { q < size_of self.old }
         requires links { links_of self.old ≡ [] }
-        ensures { FormFound (graph_of self.old) p q result }
+        requires cells { form.old.cells.items ≡ [] }
+        requires names { form.old.names.items ≡ [] }
+        ensures { FormFound (graph_of self.old) p q (found_in form.new result) }
     {
         if !self.unify(p, q) {
-            return Ok(None);
+            return Ok(false);
         }
-        let mut form = Form::new();
-        self.write_rows(&mut form, p, 1)?;
-        Ok(Some(form))
+        self.write_rows(form, p, 1)?;
+        Ok(true)
     }
 }

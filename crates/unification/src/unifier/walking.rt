@@ -47,7 +47,7 @@ impl Unifier<'_> {
                 Mark::Done => {}
             }
         }
-        self.finite_rows(marks, self.end(i), n - 1)
+        self.finite_rows(marks, self.next(i, n), n - 1)
     }
 
     // Whether every bound variable has a row: no variable stands inside its own.

@@ -26,6 +26,6 @@ impl Unifier<'_> {
             form.push(c)?;
             self.write_rows(form, x + 1, arity_of(c))?;
         }
-        self.write_rows(form, self.end(i), n - 1)
+        self.write_rows(form, self.next(i, n), n - 1)
     }
 }

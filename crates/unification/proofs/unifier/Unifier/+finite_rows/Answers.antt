@@ -4,10 +4,10 @@ use Rattle.unification.specs.declared.unifier.walking.Mark.TheVariants.{New, Ope
 use Rattle.unification.specs.Memory.{Has, need, size, binds, cell_at, kids_at, places_from}
 use Rattle.unification.specs.Finite.{newness, Above, Fin}
 use Rattle.unification.specs.Unifiers.{graph_of}
-use Rattle.unification.proofs.DownFacts.{law_of, rest_has, places_first, places_cons, kids_has, need_of, need_small}
+use Rattle.unification.proofs.DownFacts.{law_of, places_first, kids_has, need_of, need_small}
 use Rattle.unification.proofs.FinFacts.{Past, fin_none, fin_cycle, down_open, down_done, down_no, down_past, past_var, past_done, past_open, past_fin}
 use Rattle.unification.proofs.unifier.Unifier.+finite_rows.Goals as goal
-use Rattle.unification.proofs.unifier.Unifier.+finite_rows.Goals.{then-not-binds+in-New+else-not-finite_rows, then-not-binds+in-Done, else-not-binds, After-end}
+use Rattle.unification.proofs.unifier.Unifier.+finite_rows.Goals.{then-not-binds+in-New+else-not-finite_rows, then-not-binds+in-Done, else-not-binds, After-next}
 
 pub returns-then-n-eq0 : goal.returns-then-n-eq0
 returns-then-n-eq0 t c =
@@ -79,7 +79,7 @@ returns-then-not-finite_rows t c =
     subst (λ k. Fin G L (set marks x Open) c.finite_rows.new.marks (places_from mem (x + 1) k) false) em c.if-not-finite_rows.ensures in
     subst (λ P. Fin G L marks c.finite_rows.new.marks P false) (sym pc) (down_no G W L c.args.i x c.head-x.ensures.place marks lm sx c.finite_rows.new.marks ps F)
 
-past : (t : ℕ) (c : After-end t) → Past (graph_of c.args.self.now) (law_of c.args.self.now) c.args.self.now.links.items c.args.marks.now c.if-not-binds.marks c.head-x.result.0
+past : (t : ℕ) (c : After-next t) → Past (graph_of c.args.self.now) (law_of c.args.self.now) c.args.self.now.links.items c.args.marks.now c.if-not-binds.marks c.head-x.result.0
 past t c =
     let u = c.args.self.now in
     let mem = u.cells.now in
@@ -111,14 +111,13 @@ finite_rows-requires-2 t c =
     let L = u.links.items in
     let marks = c.args.marks.now in
     let P = past t c in
-    let pc = places_cons mem c.args.n c.args.i c.if-n-eq0.false c.requires.left c.end.result c.end.ensures.end in
-    let ps = places_from mem c.end.result (c.args.n - 1) in (
+    let ps = places_from mem c.next.result (c.args.n - 1) in (
       omega (arith, c.decreases, P.fewer),
       (
-        rest_has mem c.args.n c.args.i c.if-n-eq0.false c.requires.left c.end.result c.end.ensures.end,
+        c.next.ensures.rest,
         (
           omega (arith, c.requires.sheet, c.if-not-binds.auto.marks),
-          (past_open G W L marks c.if-not-binds.marks c.head-x.result.0 c.args.i ps P (subst (Above G L marks) pc c.requires.above), P.done),
+          (past_open G W L marks c.if-not-binds.marks c.head-x.result.0 c.args.i ps P (subst (Above G L marks) c.next.ensures.places c.requires.above), P.done),
         ),
       ),
     )
@@ -132,6 +131,6 @@ returns t c =
     let L = u.links.items in
     let marks = c.args.marks.now in
     let last = c.finite_rows-2.new.marks in
-    let ps = places_from mem c.end.result (c.args.n - 1) in
-    subst (λ Q. Fin G L marks last Q c.finite_rows-2.result) (sym (places_cons mem c.args.n c.args.i c.if-n-eq0.false c.requires.left c.end.result c.end.ensures.end))
-    (past_fin G W L c.args.i c.head-x.result.0 c.head-x.ensures.place marks c.if-not-binds.marks last ps c.finite_rows-2.result (past t (goal.at.returns t c).After-end) c.finite_rows-2.ensures)
+    let ps = places_from mem c.next.result (c.args.n - 1) in
+    subst (λ Q. Fin G L marks last Q c.finite_rows-2.result) (sym c.next.ensures.places)
+    (past_fin G W L c.args.i c.head-x.result.0 c.head-x.ensures.place marks c.if-not-binds.marks last ps c.finite_rows-2.result (past t (goal.at.returns t c).After-next) c.finite_rows-2.ensures)

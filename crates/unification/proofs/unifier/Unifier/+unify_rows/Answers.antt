@@ -1,11 +1,11 @@
-use Rattle.std.proofs.Common.{◌≡◌, ℕ, ◌+◌, ◌-◌, true, false, length, drop, sym, refl, ap, ◌∙◌, subst, subst₂, arith, length-append}
-use Rattle.unification.specs.Memory.{Has, need, size, binds, places_from}
+use Rattle.std.proofs.Common.{ℕ, ◌+◌, ◌-◌, true, false, length, drop, sym, refl, ap, ◌∙◌, subst, subst₂, arith, length-append}
+use Rattle.unification.specs.Memory.{Has, need, binds, places_from}
 use Rattle.unification.specs.Close.{Out}
 use Rattle.unification.specs.Unifiers.{graph_of}
 use Rattle.unification.proofs.OutFacts.{out_none}
-use Rattle.unification.proofs.DownFacts.{law_of, rest_has, places_first, places_cons, kids_has, need_arity, need_small, Heads, Wrap, Headed, link_room, wrap_same, wrap_bind, wrap_back, wrap_down, clash, down_no, kids_out, along}
+use Rattle.unification.proofs.DownFacts.{law_of, places_first, kids_has, need_arity, need_small, Heads, Wrap, Headed, link_room, wrap_same, wrap_bind, wrap_back, wrap_down, clash, down_no, kids_out, along}
 use Rattle.unification.proofs.unifier.Unifier.+unify_rows.Goals as goal
-use Rattle.unification.proofs.unifier.Unifier.+unify_rows.Goals.{then-x-y+then-binds, then-x-y+else-binds+then-binds-2, then-x-y+else-binds+else-binds-2+else-c-d+else-not-unify_rows, else-x-y, After-head-y, After-end-after_j}
+use Rattle.unification.proofs.unifier.Unifier.+unify_rows.Goals.{then-x-y+then-binds, then-x-y+else-binds+then-binds-2, then-x-y+else-binds+else-binds-2+else-c-d+else-not-unify_rows, else-x-y, After-head-y, Joined-x-y}
 
 heads : (t : ℕ) (c : After-head-y t) → Heads c.args.self.now c.args.i c.args.j c.head-x.result.0 c.head-y.result.0
 heads t c = record { rx = c.head-x.ensures.root.itself; ry = c.head-y.ensures.root.itself; ex = c.head-x.ensures.place; ey = c.head-y.ensures.place }
@@ -63,7 +63,7 @@ returns-then-not-unify_rows-clause-out t c =
     (down_no c.args.self.now c.args.i c.args.j c.head-x.result.0 c.head-y.result.0 (heads t at) sx sy K _ _ (kids_out c.args.self.now c.args.i c.args.j c.head-x.result.0 c.head-y.result.0 (heads t at) c.arity_of.result mx my v.links.items K false c.link-else-c-d.ensures.links O))
 
 -- whichever way the first equation went
-headed : (t : ℕ) (c : After-end-after_j t) → Heads c.args.self.now c.args.i c.args.j c.head-x.result.0 c.head-y.result.0 → Headed c.args.self.now c.if-x-y.self c.args.i c.args.j
+headed : (t : ℕ) (c : Joined-x-y t) → Heads c.args.self.now c.args.i c.args.j c.head-x.result.0 c.head-y.result.0 → Headed c.args.self.now c.if-x-y.self c.args.i c.args.j
 headed t c h =
     let u = c.args.self.now in
     let mem = u.cells.now in
@@ -111,24 +111,15 @@ headed t c h =
           })
     ]
 
--- the positions behind, in the memory as it was
-behind : (t : ℕ) (c : After-end-after_j t) → Headed c.args.self.now c.if-x-y.self c.args.i c.args.j → let mem = c.args.self.now.cells.now in
-    (c.end-after_i.result ≡ c.args.i + size 1 (drop c.args.i mem)) × (c.end-after_j.result ≡ c.args.j + size 1 (drop c.args.j mem))
-behind t c D = (
-  c.end-after_i.ensures.end ∙ ap (λ b. c.args.i + size 1 (drop c.args.i b.now)) D.cells,
-  c.end-after_j.ensures.end ∙ ap (λ b. c.args.j + size 1 (drop c.args.j b.now)) D.cells,
-)
-
 pub unify_rows-requires-2 : goal.unify_rows-requires-2
 unify_rows-requires-2 t c =
     let u = c.args.self.now in
     let here = goal.at.unify_rows-requires-2 t c in
-    let D = headed t here.After-end-after_j (heads t here.After-head-y) in
-    let (k, l) = behind t here.After-end-after_j D in (
+    let D = headed t here.Joined-x-y (heads t here.After-head-y) in (
       omega (arith, c.decreases, D.longer),
       (
-        subst (λ b. Has (c.args.n - 1) (drop c.end-after_i.result b.now)) (sym D.cells) (rest_has u.cells.now c.args.n c.args.i c.if-n-eq0.false c.requires.left c.end-after_i.result k),
-        subst (λ b. Has (c.args.n - 1) (drop c.end-after_j.result b.now)) (sym D.cells) (rest_has u.cells.now c.args.n c.args.j c.if-n-eq0.false c.requires.right c.end-after_j.result l),
+        subst (λ b. Has (c.args.n - 1) (drop c.next-next_i.result b.now)) (sym D.cells) c.next-next_i.ensures.rest,
+        subst (λ b. Has (c.args.n - 1) (drop c.next-next_j.result b.now)) (sym D.cells) c.next-next_j.ensures.rest,
       ),
     )
 
@@ -138,11 +129,10 @@ returns-clause-out t c =
     let mem = u.cells.now in
     let v = c.if-x-y.self in
     let here = goal.at.returns-clause-out t c in
-    let D = headed t here.After-end-after_j (heads t here.After-head-y) in
-    let (k, l) = behind t here.After-end-after_j D in
+    let D = headed t here.Joined-x-y (heads t here.After-head-y) in
     let N = c.unify_rows-2.new.self.links.items in
     subst₂ (λ P Q. Out (graph_of u) u.links.items N P Q c.unify_rows-2.result)
-    (sym (places_cons mem c.args.n c.args.i c.if-n-eq0.false c.requires.left c.end-after_i.result k))
-    (sym (places_cons mem c.args.n c.args.j c.if-n-eq0.false c.requires.right c.end-after_j.result l))
+    (sym c.next-next_i.ensures.places)
+    (sym c.next-next_j.ensures.places)
     (D.wrap N _ _ c.unify_rows-2.result
-    (along v.kinds u.kinds v.cells u.cells D.kinds D.cells v.links.items N c.end-after_i.result c.end-after_j.result (c.args.n - 1) c.unify_rows-2.result c.unify_rows-2.ensures.out))
+    (along v.kinds u.kinds v.cells u.cells D.kinds D.cells v.links.items N c.next-next_i.result c.next-next_j.result (c.args.n - 1) c.unify_rows-2.result c.unify_rows-2.ensures.out))

@@ -4,10 +4,10 @@ use Rattle.unification.specs.Memory.{Has, need, binds, cell_at, places_from}
 use Rattle.cells.specs.Variables.{index, include}
 use Rattle.unification.specs.Number.{number, Wrote}
 use Rattle.unification.specs.Unifiers.{graph_of}
-use Rattle.unification.proofs.DownFacts.{law_of, rest_has, places_first, places_cons, kids_has, need_of, need_small}
+use Rattle.unification.proofs.DownFacts.{law_of, places_first, kids_has, need_of, need_small}
 use Rattle.unification.proofs.WriteFacts.{w_none, w_names, First, first_then, first_var, first_sym, w_down}
 use Rattle.unification.proofs.unifier.Unifier.+write_rows.Goals as goal
-use Rattle.unification.proofs.unifier.Unifier.+write_rows.Goals.{then-binds+in_ok-number+in_ok-push, else-binds+in_ok-push-2+in_ok-write_rows, After-end}
+use Rattle.unification.proofs.unifier.Unifier.+write_rows.Goals.{then-binds+in_ok-number+in_ok-push, else-binds+in_ok-push-2+in_ok-write_rows, After-next}
 
 pub returns-then-n-eq0 : goal.returns-then-n-eq0
 returns-then-n-eq0 t c =
@@ -57,7 +57,7 @@ returns-in_err-write_rows t c =
     (subst (λ k. Wrote G u.links.items (places_from mem (x + 1) k) c.push-else-binds.new.self c.write_rows.new.form (Err c.in_err-write_rows.field-0.0)) (need_of mem x c.head-x.result.1 c.arity_of.result (omega arith) c.head-x.ensures.cell c.arity_of.ensures) c.in_err-write_rows.ensures))
 
 -- whichever way the first place's row was written
-first : (t : ℕ) (c : After-end t) → let u = c.args.self.now in
+first : (t : ℕ) (c : After-next t) → let u = c.args.self.now in
     First (graph_of u) (law_of u) u.links.items c.args.i c.head-x.result.0 c.head-x.ensures.place c.args.form.now c.if-binds.form
 first t c =
     let u = c.args.self.now in
@@ -90,7 +90,7 @@ write_rows-requires-2 t c =
     let F = first t c in
     let old = c.args.form.now in (
       omega (arith, c.decreases, ap length F.text, length-append old.cells.items (number (binds u.kinds) old.names.items (cell_at u.cells.now c.head-x.result.0 ∷ F.row))),
-      rest_has u.cells.now c.args.n c.args.i c.if-n-eq0.false c.requires c.end.result c.end.ensures.end,
+      c.next.ensures.rest,
     )
 
 pub returns : goal.returns
@@ -98,6 +98,6 @@ returns t c =
     let u = c.args.self.now in
     let mem = u.cells.now in
     let G = graph_of u in
-    subst (λ P. Wrote G u.links.items P c.args.form.now c.write_rows-2.new.form c.write_rows-2.result) (sym (places_cons mem c.args.n c.args.i c.if-n-eq0.false c.requires c.end.result c.end.ensures.end))
+    subst (λ P. Wrote G u.links.items P c.args.form.now c.write_rows-2.new.form c.write_rows-2.result) (sym c.next.ensures.places)
     (first_then G (law_of u) u.links.items c.args.i c.head-x.result.0 c.head-x.ensures.place c.args.form.now _ c.if-binds.form c.write_rows-2.new.form c.write_rows-2.result
-    (first t (goal.at.returns t c).After-end) c.write_rows-2.ensures)
+    (first t (goal.at.returns t c).After-next) c.write_rows-2.ensures)
