@@ -34,7 +34,7 @@ fn solve<'a>(
 }
 
 // Whether the library says that the relation holds; none if it refuses a row.
-fn decide(relation: Relation, left: &[u32], formula: &[u32]) -> Option<bool> {
+pub fn decide(relation: Relation, left: &[u32], formula: &[u32]) -> Option<bool> {
     let pair = check_pair(left, formula).ok()?;
     Some(match relation {
         Relation::General => is_general(&pair.left, &pair.formula),

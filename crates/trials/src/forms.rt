@@ -1,8 +1,8 @@
 // Comparing the library with the naive unifier on a pair.
-use crate::compare::{Finding, compare};
+use crate::compare::{Finding, decide};
 use crate::rows::Pair;
 use crate::unify::unify;
-use matching::Relation;
+use matching::{Asked, Relation, binding};
 use std::alloc::{AllocError, Global};
 use unification::{FormFault, write_common_form};
 
@@ -30,15 +30,17 @@ fn same_form(answer: Result<Option<usize>, FormFault>, form: Option<&[u32]>, out
     }
 }
 
-// Compares unifiable as a relation, which has no bindings, and then the common form.
+// Compares unifiable as a relation, which binds no variable, and the common form. The naive unifier is asked once for both.
 pub fn compare_forms(heap: Global, pair: &Pair) -> Result<Finding, AllocError> {
-    let Finding { bound, agree } = compare(heap, Relation::Unifiable, pair)?;
     let (left, formula) = pair.sides();
     let form = unify(heap, left, formula)?;
     let mut out = [KEPT; ROOM];
     let answer = write_common_form(left, formula, &mut out);
+    let agree = decide(Relation::Unifiable, left, formula) == Some(form.is_some())
+        && binding(Asked::Unifiable, left, formula).is_ok_and(|found| found.is_none())
+        && same_form(answer, form.as_deref(), &out);
     Ok(Finding {
-        bound,
-        agree: agree && same_form(answer, form.as_deref(), &out),
+        bound: form.map(|_| 0),
+        agree,
     })
 }
