@@ -2,12 +2,14 @@
 #![tactic(auto)]
 
 mod answer;
+mod faulty;
 mod perform;
 mod printing;
 mod refused;
 mod source;
 mod tally;
 
+use faulty::FaultyLine;
 use perform::perform;
 use script::{Call, Trouble, parse_line};
 use source::read_script;
@@ -30,7 +32,7 @@ fn play_line(rt: &HostRuntime, number: usize, line: &str, tally: &mut Tally) -> 
     match parse_line(rt.alloc(), line) {
         Ok(None) => {}
         Ok(Some(call)) => play_call(rt, &call, tally)?,
-        Err(Trouble::Line(fault)) => println!(rt; "line {number}: {fault}")?,
+        Err(Trouble::Line(fault)) => println!(rt; "{}", FaultyLine { number, fault })?,
         Err(Trouble::Memory(error)) => return Err(error.into()),
     }
     Ok(())
