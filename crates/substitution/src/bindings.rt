@@ -52,10 +52,12 @@ impl Bindings {
     pub fn find(&self, cell: u32) -> Option<Part>
         ensures { result ≡ lookup (bindings_list self.now) cell }
     {
-        self.items[..self.len]
-            .iter()
-            .find(|b| b.variable == cell)
-            .map(|b| b.part)
+        for binding in &self.items[..self.len] {
+            if binding.variable == cell {
+                return Some(binding.part);
+            }
+        }
+        None
     }
 
     // One binding more, unless the list is full.
