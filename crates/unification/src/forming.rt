@@ -15,7 +15,7 @@ use crate::unifier::Unifier;
 use cells::{Formula, RuleSide};
 use matching::check_pair;
 
-// Whether there is a common form. It is written to a form, which is empty, so that the buffer is written only if all of it fits.
+// Whether there is a common form. It is written to `form`, which must be empty, and not to the buffer, which is written only if all of it fits.
 fn form_of(left: &RuleSide, formula: &Formula, form: &mut Form) -> Result<bool, TooLarge>
     requires cells { form.old.cells.items ≡ [] }
     requires names { form.old.names.items ≡ [] }

@@ -32,8 +32,6 @@ impl Unifier<'_> {
         if n == 0 {
             return true;
         }
-        let next_i = self.next(i, n);
-        let next_j = self.next(j, n);
         let (x, c) = self.head(i);
         let (y, d) = self.head(j);
         if x != y {
@@ -50,6 +48,8 @@ impl Unifier<'_> {
                 }
             }
         }
+        let next_i = self.next(i, n);
+        let next_j = self.next(j, n);
         self.unify_rows(next_i, next_j, n - 1)
     }
 }

@@ -22,7 +22,7 @@ impl Unifier<'_> {
         self.unify_rows(p, q, 1) && self.is_solvable()
     }
 
-    // Whether the rows at p and q have a common form. With its variables numbered it is written to the form, which is empty.
+    // Whether the rows at p and q have a common form. With its variables numbered it is written to `form`, which must be empty.
     pub fn common_form(&mut self, p: u32, q: u32, form: &mut Form) -> Result<bool, TooLarge>
         requires left { p < size_of self.old }
         requires right { q < size_of self.old }

@@ -1,4 +1,4 @@
-use Rattle.std.proofs.Common.{ℕ, ◌+◌, ◌-◌, true, false, length, drop, sym, refl, ap, ◌∙◌, subst, subst₂, arith, length-append}
+use Rattle.std.proofs.Common.{◌≡◌, ℕ, ◌+◌, ◌-◌, true, false, ◌∷◌, length, drop, sym, refl, ap, ◌∙◌, subst, subst₂, arith, length-append}
 use Rattle.unification.specs.Memory.{Has, need, binds, places_from}
 use Rattle.unification.specs.Close.{Out}
 use Rattle.unification.specs.Unifiers.{graph_of}
@@ -111,6 +111,18 @@ headed t c h =
           })
     ]
 
+pub next-next_i-requires-clause-rows : goal.next-next_i-requires-clause-rows
+next-next_i-requires-clause-rows t c =
+    let here = goal.at.next-next_i-requires-clause-rows t c in
+    let D = headed t here.Joined-x-y (heads t here.After-head-y) in
+    subst (λ b. Has c.args.n (drop c.args.i b.now)) (sym D.cells) c.requires.left
+
+pub next-next_j-requires-clause-rows : goal.next-next_j-requires-clause-rows
+next-next_j-requires-clause-rows t c =
+    let here = goal.at.next-next_j-requires-clause-rows t c in
+    let D = headed t here.Joined-x-y (heads t here.After-head-y) in
+    subst (λ b. Has c.args.n (drop c.args.j b.now)) (sym D.cells) c.requires.right
+
 pub unify_rows-requires-2 : goal.unify_rows-requires-2
 unify_rows-requires-2 t c =
     let u = c.args.self.now in
@@ -118,8 +130,8 @@ unify_rows-requires-2 t c =
     let D = headed t here.Joined-x-y (heads t here.After-head-y) in (
       omega (arith, c.decreases, D.longer),
       (
-        subst (λ b. Has (c.args.n - 1) (drop c.next-next_i.result b.now)) (sym D.cells) c.next-next_i.ensures.rest,
-        subst (λ b. Has (c.args.n - 1) (drop c.next-next_j.result b.now)) (sym D.cells) c.next-next_j.ensures.rest,
+        c.next-next_i.ensures.rest,
+        c.next-next_j.ensures.rest,
       ),
     )
 
@@ -132,7 +144,7 @@ returns-clause-out t c =
     let D = headed t here.Joined-x-y (heads t here.After-head-y) in
     let N = c.unify_rows-2.new.self.links.items in
     subst₂ (λ P Q. Out (graph_of u) u.links.items N P Q c.unify_rows-2.result)
-    (sym c.next-next_i.ensures.places)
-    (sym c.next-next_j.ensures.places)
+    (sym (subst (λ b. places_from b.now c.args.i c.args.n ≡ c.args.i ∷ places_from b.now c.next-next_i.result (c.args.n - 1)) D.cells c.next-next_i.ensures.places))
+    (sym (subst (λ b. places_from b.now c.args.j c.args.n ≡ c.args.j ∷ places_from b.now c.next-next_j.result (c.args.n - 1)) D.cells c.next-next_j.ensures.places))
     (D.wrap N _ _ c.unify_rows-2.result
     (along v.kinds u.kinds v.cells u.cells D.kinds D.cells v.links.items N c.next-next_i.result c.next-next_j.result (c.args.n - 1) c.unify_rows-2.result c.unify_rows-2.ensures.out))
