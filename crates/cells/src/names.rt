@@ -15,7 +15,7 @@ pub fn place_of(list: &[u32], v: u32) -> Option<usize>
     list.iter().position(|u| *u == v)
 }
 
-// Whether the word is a variable that the list lacks.
+// Whether the word is a variable that the list lacks. This is asked for each cell of a row, and is to cost no call.
 #[inline(always)]
 fn lacks(names: &[u32], w: u32) -> bool
     ensures { result ≡ lacking names.now w }

@@ -53,7 +53,7 @@ fn first_place(pattern: &[u32], v: u32) -> Option<usize>
         .position(|w| w.checked_sub(VARIABLE) == Some(v))
 }
 
-// Where the part ends that a cell of a pattern becomes at a position, if its variable is bound to nothing else.
+// Where the part ends that a cell of a pattern becomes at a position, with no bindings at hand.
 #[tactic(auto, using(crate::proofs::Walking::passing))]
 fn pass(w: u32, target: &[u32], at: usize) -> Option<usize>
     ensures { Passed target.now (cell w) at result }

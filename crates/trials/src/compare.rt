@@ -17,7 +17,7 @@ pub struct Finding {
     pub agree: bool,
 }
 
-// What the naive code puts for the variables, if the relation holds. Unifiable binds none.
+// What the naive code puts for the variables, if the relation holds. Unifiable binds none; it is compared with the forms.
 fn solve<'a>(
     heap: Global,
     relation: Relation,
